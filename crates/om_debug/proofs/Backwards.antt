@@ -100,7 +100,7 @@ still_of breaks watches m true (Some Fell) k still = refl
 still_of breaks watches m false (Some Fell) k still = cc
 still_of breaks watches m down (Some (Back machine)) k still = cc
 
-still_stop : (b : List ℕ) (w : List Watch) (t : TimelineState) (e k : ℕ) → next_at t.deeds e k ≡ Still → stop_at b w t e k ≡ None
+pub still_stop : (b : List ℕ) (w : List Watch) (t : TimelineState) (e k : ℕ) → next_at t.deeds e k ≡ Still → stop_at b w t e k ≡ None
 unfolding stop_by
 still_stop b w t e k still = still_of b w (machine_at t e k) (is_down t.deeds e) (slice_get t.deeds e) k still
 

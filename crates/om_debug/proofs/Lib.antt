@@ -1,4 +1,5 @@
 pub mod Backwards
+pub mod Looking
 pub mod Moved
 pub mod Quiet
 pub mod Stepping

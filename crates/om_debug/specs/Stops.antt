@@ -1,5 +1,5 @@
 -- What stops a process, and what stops are told as.
-use Rattle.std.specs.Prelude.{◌≡◌, ◌≢◌, ℕ, ◌+◌, ◌<◌, ◌≤◌, ◌⊎◌, Bool, false, ◌&&◌, List, length, ◌++◌, ◌==◌, Option, Some, None, codes, if◌then◌else◌, slice_get}
+use Rattle.std.specs.Prelude.{◌≡◌, ◌≢◌, ℕ, ◌+◌, ◌<◌, ◌≤◌, ◌⊎◌, Bool, false, ◌&&◌, ◌||◌, nat_lt, List, length, ◌++◌, ◌==◌, Option, Some, None, codes, if◌then◌else◌, slice_get}
 use Rattle.std.specs.Fmt.{digits}
 use Rattle.std.specs.List.{list_any}
 use Rattle.om_machine.specs.State.{State}
@@ -51,6 +51,10 @@ watch_stop (Some watch) = Some (stops.Watched watch)
 abbrev pub stop_at : List ℕ → List Watch → TimelineState → ℕ → ℕ → Option Stop
 stop_at breaks watches t event turns =
     if breaks_at breaks t event turns then Some stops.Break else watch_stop (watch_at watches t event turns)
+
+-- a breakpoint or a watchpoint is set, so that something may stop the process
+abbrev pub has_stops : DebugState → Bool
+has_stops d = nat_lt 0 (length d.breaks) || nat_lt 0 (length d.watches)
 
 -- ---- positions
 -- the one is before the other
@@ -165,6 +169,12 @@ IsRunBack old new other = ⊥
 abbrev pub IsPartBack : DebugState → DebugState → Option Stop → Type 0
 IsPartBack old new None = IsFrom new.timeline.event new.timeline.turns old.timeline.event old.timeline.turns × IsQuiet new.breaks new.watches new.timeline new.timeline.event new.timeline.turns old.timeline.event old.timeline.turns
 IsPartBack old new (Some stop) = IsRunBack old new stop
+
+-- one who looks back no further than to before an event stops here, for this, which may be before the event; or nothing stops from the
+-- event on up to the old position
+abbrev pub IsLookedBack : ℕ → DebugState → DebugState → Option Stop → Type 0
+IsLookedBack event old new None = IsQuiet old.breaks old.watches old.timeline event 0 old.timeline.event old.timeline.turns
+IsLookedBack event old new (Some stop) = IsRunBack old new stop
 
 -- ---- texts
 -- SIGSEGV (11) for an address outside memory, SIGBUS (10) for one that is not aligned, SIGTRAP (5) for EBREAK, SIGILL (4) for the rest

@@ -6,7 +6,7 @@ ghost use Rattle.om_debug.specs.Moments.{next_at};
 ghost use Rattle.om_debug.specs.Monitor.{IsAtEvent};
 ghost use Rattle.om_timeline.specs.declared.tape.Look.{Look};
 ghost use Rattle.om_timeline.specs.Deeds.{turns_at};
-ghost use Rattle.om_debug.specs.Stops.{IsBefore, IsBehind, IsFrom, IsLast, IsMoved, IsPartBack, IsPassed, IsQuiet, IsQuietRest, IsRunBack, IsStepBack, IsStillBefore, IsWithin, StandsFor, breaks_here, standing, stop_here, watch_here, with_timeline};
+ghost use Rattle.om_debug.specs.Stops.{IsBefore, IsBehind, IsFrom, IsLast, IsLookedBack, IsMoved, IsPartBack, IsPassed, IsQuiet, IsQuietRest, IsRunBack, IsStepBack, IsStillBefore, IsWithin, StandsFor, breaks_here, has_stops, standing, stop_here, watch_here, with_timeline};
 ghost use Rattle.om_debug.specs.steps.Scanning.{IsOver, IsPart};
 ghost use Rattle.om_debug.specs.steps.Stepping.{before_last};
 
@@ -366,6 +366,31 @@ impl Debugger {
         Ok(Stop::Paused)
     }
 
+    /// Goes back to the last stop as `run_back` does, but no further than it takes to know that nothing stops from an event on: then it
+    /// tells no stop. Where neither a breakpoint nor a watchpoint is set it stays. Refused where memory ran out, and then it stands at a
+    /// position before that.
+    #[tactic(auto, using(crate::proofs::Backwards::stands_not, crate::proofs::Backwards::stands_then, crate::proofs::Backwards::run_start, crate::proofs::Backwards::run_stop, crate::proofs::Looking::looked_none))]
+    pub fn look_back<R: Wish>(
+        &mut self,
+        event: usize,
+        reader: &mut R,
+    ) -> Result<Option<Stop>, PlayFault>
+        ensures stands { self.new ≡ standing self.old self.new.timeline.event self.new.timeline.turns }
+        ensures back { IfOk result (λ stop. IsLookedBack event self.old self.new stop) }
+        ensures unread { R.remaining reader.new ≡ R.remaining reader.old }
+    {
+        'parts: for _ in 0..MOST_PIECES {
+            let Some(before) = self.last_from(event) else {
+                return Ok(None);
+            };
+            match self.part_behind(before, event, reader)? {
+                Some(stop) => return Ok(Some(stop)),
+                None => {}
+            }
+        }
+        Ok(Some(Stop::Paused))
+    }
+
     // Goes back to a position that is kept, or to the last stop behind that, if there is one.
     #[tactic(auto, using(crate::proofs::Backwards::stands_then, crate::proofs::Backwards::back_begin))]
     fn part_back<R: Wish>(&mut self, reader: &mut R) -> Result<Option<Stop>, PlayFault>
@@ -374,7 +399,7 @@ impl Debugger {
         ensures unread { R.remaining reader.new ≡ R.remaining reader.old }
     {
         match self.last_watched() {
-            Some(before) => self.part_behind(before, reader),
+            Some(before) => self.part_behind(before, 0, reader),
             None => {
                 self.stand_first()?;
                 Ok(Some(Stop::Begin))
@@ -382,20 +407,22 @@ impl Debugger {
         }
     }
 
-    // The same, where this position lies before.
+    // The same, where what came last to the process came in this event or behind it: it goes no further back than to before that.
     #[tactic(auto, using(crate::proofs::Backwards::stands_then, crate::proofs::Backwards::back_quiet, crate::proofs::Backwards::back_breaks, crate::proofs::Backwards::back_meets, crate::proofs::Backwards::back_paused, crate::proofs::Backwards::again_at))]
     fn part_behind<R: Wish>(
         &mut self,
         before: Position,
+        event: usize,
         reader: &mut R,
     ) -> Result<Option<Stop>, PlayFault>
-        requires { IsBefore before.event before.turns self.old.timeline.event self.old.timeline.turns }
+        requires last { IsLast self.old.timeline.deeds before.event before.turns self.old.timeline.event self.old.timeline.turns }
+        requires event { event ≤ before.event }
         ensures stands { self.new ≡ standing self.old self.new.timeline.event self.new.timeline.turns }
         ensures back { IfOk result (λ stop. IsPartBack self.old self.new stop) }
         ensures unread { R.remaining reader.new ≡ R.remaining reader.old }
     {
         let end = self.timeline.position();
-        self.stand_kept(before)?;
+        self.stand_kept(before, event)?;
         let begin = self.timeline.position();
         match self.last_stop(end, reader)? {
             Part::Quiet => {
@@ -426,25 +453,50 @@ impl Debugger {
         Ok(())
     }
 
-    // Goes back to the last position that is kept and not behind another one.
-    fn stand_kept(&mut self, to: Position) -> Result<(), PlayFault>
+    // Goes back to the last position that is kept and not behind another one, or to before an event where that is later.
+    #[tactic(auto, using(crate::proofs::Backwards::stands_then, crate::proofs::Looking::event_from))]
+    fn stand_kept(&mut self, to: Position, event: usize) -> Result<(), PlayFault>
+        requires played { to.event ≤ length self.old.timeline.deeds }
+        requires event { event ≤ to.event }
         ensures stands { self.new ≡ standing self.old self.new.timeline.event self.new.timeline.turns }
         ensures order { OnOk result (IsFrom self.new.timeline.event self.new.timeline.turns to.event to.turns) }
     {
         self.timeline.go_to_kept(self.alloc, to)?;
+        if self.timeline.position().event < event {
+            self.stand_at(Position { event, turns: 0 })?;
+        }
         Ok(())
     }
 
+    // Returns whether anything may stop the process: a breakpoint or a watchpoint is set.
+    fn has_stops(&self) -> bool
+        ensures { result ≡ has_stops self.now }
+    {
+        self.breaks.len() > 0 || self.watches.len() > 0
+    }
+
     // The position before what came last to the process, where anything may have stopped it before here.
-    #[tactic(auto, using(crate::proofs::Backwards::still_quiet, crate::proofs::Backwards::free_quiet))]
+    #[tactic(auto, using(crate::proofs::Backwards::still_quiet, crate::proofs::Looking::none_quiet))]
     fn last_watched(&self) -> Option<Position>
         ensures { MatchOption result (IsQuiet self.now.breaks self.now.watches self.now.timeline 0 0 self.now.timeline.event self.now.timeline.turns)
-            (λ at. IsBefore at.event at.turns self.now.timeline.event self.now.timeline.turns) }
+            (λ at. IsLast self.now.timeline.deeds at.event at.turns self.now.timeline.event self.now.timeline.turns) }
     {
-        if self.breaks.len() == 0 && self.watches.len() == 0 {
+        if !self.has_stops() {
             return None;
         }
         self.last()
+    }
+
+    // The same, where that came in this event or behind it.
+    #[tactic(auto, using(crate::proofs::Looking::last_quiet, crate::proofs::Looking::quiet_from))]
+    fn last_from(&self, event: usize) -> Option<Position>
+        ensures { MatchOption result (IsQuiet self.now.breaks self.now.watches self.now.timeline event 0 self.now.timeline.event self.now.timeline.turns)
+            (λ at. IsLast self.now.timeline.deeds at.event at.turns self.now.timeline.event self.now.timeline.turns × (event ≤ at.event)) }
+    {
+        match self.last_watched() {
+            Some(before) if before.event >= event => Some(before),
+            _ => None,
+        }
     }
 
     // Returns what stops between here and another position, which was played.

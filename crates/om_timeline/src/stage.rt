@@ -12,6 +12,11 @@ use om_machine::Machine;
 // How many bytes the machines that are kept have at most.
 const MOST_BYTES: usize = 512 << 20;
 
+// How many instructions and events lie at first between two positions that are kept on the way forward: as many as a machine has bytes,
+// so that copying it costs little, but no fewer and no more than these.
+const LEAST_SPACING: u64 = 20_000;
+const MOST_SPACING: u64 = 100_000;
+
 // How many bytes a machine is taken to have beside its memory.
 const BESIDE_MEMORY: usize = 1024;
 
@@ -54,6 +59,12 @@ pub(crate) fn are_up_to(stages: &[Stage], to: Position) -> bool {
         Some(stage) => is_up_to(stage.at, to),
         None => true,
     }
+}
+
+// Returns how many instructions and events lie at first between two positions where machines like this one are kept.
+pub(crate) fn spacing_of(machine: &Machine) -> u64 {
+    let bytes = machine.memory().len() as u64;
+    bytes.max(LEAST_SPACING).min(MOST_SPACING)
 }
 
 // Returns whether no more are to be kept of machines like this one.

@@ -17,7 +17,7 @@ use crate::alone::{Alone, copy_of};
 use crate::deed::{Deed, turns_at};
 use crate::fault::PlayFault;
 use crate::reel::Reel;
-use crate::stage::{Stage, are_up_to, before, is_full, is_up_to, thin, up_to};
+use crate::stage::{Stage, are_up_to, before, is_full, is_up_to, spacing_of, thin, up_to};
 use crate::tape::Look;
 use om_interval::Pid;
 use om_machine::Machine;
@@ -34,9 +34,6 @@ pub struct Position {
     pub event: usize,
     pub turns: u64,
 }
-
-// How many instructions and events lie at first between two positions that are kept on the way forward.
-const SPACING: u64 = 100_000;
 
 // How many lie at most before a position that was gone back to, from one that is kept.
 const NEAR: u64 = 4_000;
@@ -99,6 +96,7 @@ impl Timeline {
             return Ok(None);
         };
         let machine = copy_of(alloc, tape.first())?;
+        let spacing = spacing_of(&machine);
         let here = Alone {
             machine,
             own: process.index() as u32,
@@ -109,7 +107,7 @@ impl Timeline {
             here,
             at: Position { event: 0, turns: 0 },
             stages: Vec::new(alloc),
-            spacing: SPACING,
+            spacing,
             passed: 0,
         }))
     }
@@ -337,11 +335,32 @@ impl Timeline {
         ensures there { OnOk result (self.new ≡ at self.old to.event to.turns) }
         ensures stays { (event : ℕ) × (turns : ℕ) × (self.new ≡ at self.old event turns) }
     {
-        if !is_up_to(self.at, to) {
-            self.go_to_kept(alloc, to)?;
-            self.approach(alloc, to)?;
-        }
+        self.start_for(alloc, to)?;
+        self.approach(alloc, to)?;
         self.advance(alloc, to)
+    }
+
+    // Goes to where the way to a position begins: to the last position that is kept and not behind that, or it stays where it is nearer.
+    #[tactic(auto, using(crate::proofs::Walking::coming_here, crate::proofs::Walking::coming_to, crate::proofs::Walking::stays_coming))]
+    fn start_for(&mut self, alloc: Global, to: Position) -> Result<(), AllocError>
+        ensures coming { OnOk result (IsComing self.old self.new to.event to.turns) }
+        ensures refused { OnErr result (self.new ≡ self.old) }
+    {
+        if self.is_far(to) {
+            return self.go_to_kept(alloc, to);
+        }
+        Ok(())
+    }
+
+    // Returns whether a position lies before this one, or one is kept between the two.
+    fn is_far(&self, to: Position) -> bool
+        ensures { result ≡ false → IsUpTo self.now.event self.now.turns to.event to.turns }
+    {
+        if !is_up_to(self.at, to) {
+            return true;
+        }
+        let place = up_to(&self.stages, to);
+        place > 0 && !is_up_to(self.stages[place - 1].at, self.at)
     }
 
     /// Goes back to the last position that is kept and not behind another one, or to before the first event. Refused where memory ran
