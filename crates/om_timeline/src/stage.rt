@@ -15,6 +15,7 @@ const MOST_BYTES: usize = 512 << 20;
 // How many instructions and events lie at first between two positions that are kept on the way forward: as many as a machine has bytes,
 // so that copying it costs little, but no fewer and no more than these.
 const LEAST_SPACING: u64 = 20_000;
+
 const MOST_SPACING: u64 = 100_000;
 
 // How many bytes a machine is taken to have beside its memory.
