@@ -127,6 +127,7 @@ impl Timeline {
     {
         let tape = Reel::told(process, n, first, events, deeds);
         let machine = copy_of(alloc, tape.first())?;
+        let spacing = spacing_of(&machine);
         let here = Alone {
             machine,
             own: process.index() as u32,
@@ -137,7 +138,7 @@ impl Timeline {
             here,
             at: Position { event: 0, turns: 0 },
             stages: Vec::new(alloc),
-            spacing: SPACING,
+            spacing,
             passed: 0,
         })
     }
