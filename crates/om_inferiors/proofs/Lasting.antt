@@ -197,6 +197,10 @@ behind_at all one other x y e k f l less also is_x is_y at_e at_k at_f at_l orde
     (subst (λ n. IsUpTo e k n y.debugger.timeline.turns) at_f
     (subst (λ n. IsUpTo e k f n) at_l order)))))
 
+-- ---- one that looked back
+pub looked_run : (olds news : List Inferior) (place event : ℕ) (stop : Stop) → IsLookedBackAt olds news place event (Some stop) → IsRunBackAt olds news place stop
+looked_run olds news place event stop looked = record { old = looked.old; new = looked.new; was = looked.was; is = looked.is; back = looked.back }
+
 -- ---- nothing stops behind another one
 up_before : (e k f l : ℕ) → IsBefore e k f 0 → IsUpTo e k f l
 up_before e k f l (inl less) = inl less

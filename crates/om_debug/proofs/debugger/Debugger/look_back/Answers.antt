@@ -8,7 +8,7 @@ parts-preserved g c =
     let old : DebugState = c.args.self.now in
     let mid : DebugState = c.parts.self in
     let new : DebugState = c.part_behind.new.self in
-    let back : IsPartBack mid new None = subst (IsPartBack mid new) c.in-None.is c.in_ok-part_behind.ensures.back in
+    let back : IsPartBack mid new None = subst (IsPartBack mid new) c.in-None.is c.in_ok-stop.ensures.back in
     record {
       stands = stands_then old mid new c.parts.invariant.stands c.part_behind.ensures.stands;
       order = from_then new.timeline.event new.timeline.turns mid.timeline.event mid.timeline.turns old.timeline.event old.timeline.turns back.0 c.parts.invariant.order;
