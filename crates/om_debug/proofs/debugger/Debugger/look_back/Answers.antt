@@ -1,6 +1,7 @@
 use Rattle.std.proofs.Common.{None, subst, ◌∙◌}
 use Rattle.om_debug.specs.Stops.{DebugState, IsPartBack}
 use Rattle.om_debug.proofs.Backwards.{from_then, run_more, stands_then}
+use Rattle.om_debug.proofs.Looking.{looked_none}
 use Rattle.om_debug.proofs.debugger.Debugger.look_back.Goals as goal
 
 pub parts-preserved : goal.parts-preserved
@@ -15,3 +16,7 @@ parts-preserved g c =
       quiet = run_more old mid new c.parts.invariant.stands c.part_behind.ensures.stands c.parts.invariant.quiet back.1;
       unread = c.part_behind.ensures.unread ∙ c.parts.invariant.unread;
     }
+
+pub returns-in_default-clause-back : goal.returns-in_default-clause-back
+returns-in_default-clause-back g c =
+    looked_none c.args.self.now c.parts.self c.args.event c.parts.invariant.stands c.parts.invariant.quiet c.in_default.ensures
