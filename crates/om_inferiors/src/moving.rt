@@ -4,7 +4,7 @@ ghost use Rattle.std.specs.Prelude.{◌≡◌, ◌≢◌, ◌⊎◌, ℕ, ◌<�
 ghost use Rattle.om_timeline.specs.Timeline.{IsUpTo};
 ghost use Rattle.om_inferiors.specs.declared.inferior.Inferior.{Inferior};
 ghost use Rattle.om_inferiors.specs.Moving.{AreBack, AreOn, IsLastOf, IsNoStepBack, IsRunBackAt, IsStepBackAt, StandsAt};
-ghost use Rattle.om_inferiors.specs.steps.Lasting.{IsBehindAt, IsLastUpTo, IsLaterOf, IsLookedBackAt};
+ghost use Rattle.om_inferiors.specs.steps.Lasting.{IsBehindAt, IsLastUpTo, IsLaterOf};
 
 use crate::inferior::Inferior;
 use om_debug::{Stop, Wish};
@@ -243,22 +243,6 @@ fn step_back_at(all: &mut [Inferior], place: usize) -> Result<Stop, PlayFault>
     inferior.debugger.step_back()
 }
 
-fn look_back_at<R: Wish>(
-    all: &mut [Inferior],
-    place: usize,
-    event: usize,
-    reader: &mut R,
-) -> Result<Option<Stop>, PlayFault>
-    requires { place < length all.old }
-    ensures back { AreBack all.old all.new }
-    ensures told { IfOk result (IsLookedBackAt all.old all.new place event) }
-    ensures others { (k : ℕ) → k ≢ place → slice_get all.new k ≡ slice_get all.old k }
-    ensures unread { R.remaining reader.new ≡ R.remaining reader.old }
-{
-    let inferior = &mut all[place];
-    inferior.debugger.look_back(event, reader)
-}
-
 fn go_to_at(all: &mut [Inferior], place: usize, to: Position) -> Result<bool, PlayFault>
     requires { place < length all.old }
     ensures back { AreBack all.old all.new }
@@ -325,7 +309,7 @@ pub(crate) fn backward<R: Wish>(
     last_with(all, Stopped { place: who, stop }, reader)
 }
 
-// Looks at all others for a later stop, and then takes all to the latest of all, which is told.
+// Takes all others back to their last stops, and then all to the latest of all, which is told.
 #[tactic(auto, using(crate::proofs::Each::are_back_same, crate::proofs::Each::are_back_then, crate::proofs::Each::length_back))]
 fn last_with<R: Wish>(
     all: &mut [Inferior],
@@ -344,7 +328,7 @@ fn last_with<R: Wish>(
     Ok(last)
 }
 
-// Looks at all others for a later stop, and tells the latest of all.
+// Takes all others back to their last stops, and tells the latest of all.
 #[tactic(auto, using(crate::proofs::Each::are_back_same, crate::proofs::Each::are_back_then, crate::proofs::Each::length_back, crate::proofs::Lasting::last_first, crate::proofs::Lasting::untouched_first))]
 fn last_of<R: Wish>(
     all: &mut [Inferior],
@@ -366,7 +350,7 @@ fn last_of<R: Wish>(
     Ok(last)
 }
 
-// Looks for a stop of the one at a place that is later than another one, and tells the later of both.
+// Takes the one at a place back to its last stop, and tells this stop where it is later than another one.
 #[tactic(auto, using(crate::proofs::Each::length_back))]
 fn later_of<R: Wish>(
     all: &mut [Inferior],
@@ -376,16 +360,12 @@ fn later_of<R: Wish>(
 ) -> Result<Stopped, PlayFault>
     requires place { place < length all.old }
     requires last { last.place < length all.old }
-    requires apart { last.place ≢ place }
     ensures back { AreBack all.old all.new }
     ensures later { IfOk result (λ s. IsLaterOf all.old all.new last.place last.stop place s.place s.stop) }
     ensures others { (k : ℕ) → k ≢ place → slice_get all.new k ≡ slice_get all.old k }
     ensures unread { R.remaining reader.new ≡ R.remaining reader.old }
 {
-    let event = all[last.place].debugger.position().event;
-    let Some(stop) = look_back_at(all, place, event, reader)? else {
-        return Ok(last);
-    };
+    let stop = run_back_at(all, place, reader)?;
     let here = Stopped { place, stop };
     if is_later(all, here, last) {
         Ok(here)

@@ -20,7 +20,7 @@ loop-place-preserved g c =
           let less : upto < length c.loop-place.all = omega (arith, c.loop-place-test.true, length_back c.args.all.now c.loop-place.all so.back) in
           rw (w.all-is, w.last-is, w.reader-is) (record {
             back = are_back_then c.args.all.now c.loop-place.all news so.back w.later_of.ensures.back;
-            last = last_next c.args.all.now c.loop-place.all news first upto last.place its last.stop s.place s.stop so.last so.so w.if-place-first.true so.before w.later_of.ensures.back one w.later_of.ensures.others;
+            last = last_next c.args.all.now c.loop-place.all news first upto last.place its last.stop s.place s.stop so.last so.so w.if-place-first.true so.before one w.later_of.ensures.others;
             so = untouched_more c.args.all.now c.loop-place.all news upto so.so w.later_of.ensures.others;
             before = before_next c.loop-place.all news first upto last.place last.stop s.place s.stop so.before one;
             within = within_next c.loop-place.all news last.place upto last.stop s.place s.stop w.later_of.ensures.back so.within less one;

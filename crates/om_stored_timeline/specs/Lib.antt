@@ -1,3 +1,0 @@
-pub mod Following
-pub mod Stored
-pub mod steps

@@ -1,2 +1,0 @@
--- What only the crate's own parts rest on: no public clause cites these.
-pub mod Walking
