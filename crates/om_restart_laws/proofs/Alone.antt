@@ -1,5 +1,5 @@
 -- A start over stores alone.
-use Rattle.std.proofs.Common.{◌≡◌, inl, inr, ◌⊎◌, ℕ, zero, suc, ◌+◌, ◌<◌, ◌≤◌, List, [], ◌∷◌, length, map, cond, replicate, Some, None, Option, Bool, true, false, refl, sym, ap, ◌∙◌, subst, arith}
+use Rattle.std.proofs.Common.{◌≡◌, inl, inr, ℕ, suc, ◌+◌, ◌<◌, ◌≤◌, List, [], ◌∷◌, length, map, cond, replicate, Some, None, Option, Bool, true, false, refl, sym, ap, ◌∙◌, subst, arith}
 use Rattle.std.proofs.lemmas.Bool.Decides.{nat_tests}
 use Rattle.std.specs.FinMap.{get}
 use Rattle.std.specs.Prelude.{min, nat_le, slice_get, slice_index}
@@ -21,13 +21,12 @@ use Rattle.om_process.specs.Stored.{IsCheckpointAt, IsReceiptAt}
 use Rattle.om_process.specs.declared.limits.TheConstants.{LAST_INTERVAL}
 use Rattle.om_process.specs.declared.queues.Made.{Made}
 use Rattle.om_process.specs.declared.row.PendingRow.{PendingRow}
-use Rattle.om_recover.specs.Cutting.{IsEffective, cut_to}
-use Rattle.om_recover.specs.Rows.{Has, HasRow, Rows}
+use Rattle.om_recover.specs.Cutting.{IsEffective}
+use Rattle.om_recover.specs.Rows.{Has, HasRow}
 use Rattle.om_recover.specs.declared.row.Row.{Row}
-use Rattle.om_recover.specs.declared.row.RowKind.{RowKind}
 use Rattle.om_recover.specs.declared.row.RowKind.TheVariants.{Checkpoint, Log}
 use Rattle.om_recover.proofs.CuttingLemmas.{has_after_cut, of_cut}
-use Rattle.om_stable.specs.Content.{Content, Records}
+use Rattle.om_stable.specs.Content.{Content}
 use Rattle.om_stable.proofs.BetweenLemmas.{between-AreAllBetween}
 use Rattle.om_take_up.specs.Anew.{IsNew}
 use Rattle.om_take_up.specs.Orders.{Act, AreOfEach, ComeInTurn, StartsOver}
@@ -39,11 +38,10 @@ use Rattle.om_world.specs.Live.{Legal, cut_list, program_at, received}
 use Rattle.om_world.specs.Restarted.{HasRestarted}
 use Rattle.om_world.specs.World.{WorldState, output_entry, recovered}
 use Rattle.om_world.specs.declared.entry.Entry.{Entry}
-use Rattle.om_world.specs.declared.process_state.ProcessState.{ProcessState}
 use Rattle.om_world.proofs.Beginning.{same_at}
 use Rattle.om_world.proofs.Disk.{index_at}
 use Rattle.om_world.proofs.Holding.{before_map}
-use Rattle.om_world.proofs.Lists.{map_at, once}
+use Rattle.om_world.proofs.Lists.{map_at}
 use Rattle.om_world.proofs.Losing.{has_checkpoint, not_lost}
 use Rattle.om_world.proofs.Released.{released_first}
 use Rattle.om_world.proofs.Serving.{rows_serve}

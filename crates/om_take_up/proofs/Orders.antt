@@ -1,13 +1,12 @@
 -- Processes that reach their manager in any order.
-use Rattle.std.proofs.Common.{◌≡◌, ◌≢◌, ◌⊎◌, inl, inr, ℕ, zero, suc, ◌+◌, ◌<◌, ◌≤◌, List, [], ◌∷◌, ◌++◌, length, map, set, replicate, Some, None, Ok, Bool, true, false, refl, sym, ap, ◌∙◌, subst, arith, length-set}
-use Rattle.std.specs.Prelude.{if◌then◌else◌, nat_eq, slice_get, slice_index_or}
+use Rattle.std.proofs.Common.{◌≡◌, ◌≢◌, ◌⊎◌, inl, inr, ℕ, zero, suc, ◌<◌, ◌≤◌, List, [], ◌∷◌, length, map, replicate, Some, None, Ok, Bool, true, false, refl, sym, ap, ◌∙◌, subst, arith, length-set}
+use Rattle.std.specs.Prelude.{nat_eq, slice_get, slice_index_or}
 use Rattle.std.proofs.lemmas.Bool.Decides.{nat_tests}
 use Rattle.std.proofs.lemmas.List.{length-replicate}
 use Rattle.om_interval.specs.declared.pid.TheConstants.{MAX_PROCESSES}
 use Rattle.om_look.specs.Rows.{AreRowsOf}
-use Rattle.om_manager.specs.Gatherings.{AreAllIn, presence_of, presences_of}
-use Rattle.om_manager.specs.Outputs.{HeldOutput}
-use Rattle.om_manager.specs.Rounds.{Failing, Finishes, Gathers, again, first, gathering_with, with_presence}
+use Rattle.om_manager.specs.Gatherings.{presence_of, presences_of}
+use Rattle.om_manager.specs.Rounds.{Failing, Gathers, again, first, gathering_with, with_presence}
 use Rattle.om_manager.specs.Sound.{IsManager}
 use Rattle.om_manager.specs.State.{ManagerState, held_by, process_count}
 use Rattle.om_manager.specs.declared.answers.Gathered.{Gathered}
@@ -22,12 +21,12 @@ use Rattle.om_recover.specs.Recoverable.{IsGreatest}
 use Rattle.om_recover.specs.Rows.{HasRow}
 use Rattle.om_recover.specs.declared.row.Row.{Row}
 use Rattle.om_stable.specs.Content.{Content}
-use Rattle.om_take_up.specs.Anew.{EachFailed, IsFirst, IsNew, OnlyFailed}
+use Rattle.om_take_up.specs.Anew.{IsNew, OnlyFailed}
 use Rattle.om_take_up.specs.TakenUp.{HasTakenUp, RiseFrom}
 use Rattle.om_take_up.specs.steps.Handing.{Holds}
 use Rattle.om_take_up.proofs.FailingLemmas.{none_away, set_at, set_off}
 use Rattle.om_take_up.proofs.HandingLemmas.{all_rising, none_held}
-use Rattle.om_take_up.specs.StoreRows.{HasRowsOf, IsToldOf}
+use Rattle.om_take_up.specs.StoreRows.{IsToldOf}
 use Rattle.om_take_up.proofs.RowsLemmas.{AreAdded, are_added, row_pid}
 use Rattle.om_take_up.specs.Orders.{Act, AreOfEach, ComeInTurn, StartsOver, actor, acts_of, fails, takes_up}
 

@@ -1,7 +1,7 @@
 -- What a restart comes to.
 use Rattle.std.proofs.Common.{◌≡◌, ◌≢◌, ℕ, ◌<◌, List, [], ◌∷◌, length, map, replicate, None, true, refl, sym, ap, ◌∙◌, subst, arith}
 use Rattle.std.specs.List.{AllByRecursion}
-use Rattle.std.specs.Prelude.{slice_index, slice_index_or}
+use Rattle.std.specs.Prelude.{slice_index}
 use Rattle.std.proofs.lemmas.List.{length-replicate}
 use mathlib.Core.List.{IsPrefix}
 use Rattle.om_interval.specs.Vectors.{IsBelow}
@@ -32,7 +32,6 @@ use Rattle.om_world.specs.steps.Members.{content_in, core_in, downed, health_in,
 use Rattle.om_world.specs.steps.Moves.{Keeps}
 use Rattle.om_world.specs.steps.Restarting.{HasLearned, HasRead, HasToldStores, IsAnew, IsRefusal}
 use Rattle.om_world.specs.steps.Sound.{HasShape, IsWorld, Sound}
-use Rattle.om_world.proofs.Beginning.{index_same}
 use Rattle.om_world.proofs.Keeping.{keeps_same}
 use Rattle.om_member.proofs.KeepLemmas.{prefix_same}
 use Rattle.om_world.proofs.Lists.{length-map}

@@ -1,5 +1,5 @@
 -- What a restart does to a world: all that runs ends, and a new manager starts over the stores.
-use Rattle.std.specs.Prelude.{◌≡◌, ℕ, ◌<◌, [], ◌∷◌, length, replicate, None, true}
+use Rattle.std.specs.Prelude.{◌≡◌, ℕ, ◌<◌, [], length, replicate, None, true}
 use Rattle.om_interval.specs.Vectors.{IsBelow}
 use Rattle.om_recover.specs.Recoverable.{IsGreatest}
 use Rattle.om_manager.specs.State.{ManagerState, held_by, released_by}

@@ -1,5 +1,5 @@
 -- A world at its start, and why there is none.
-use Rattle.std.specs.Prelude.{◌≡◌, ℕ, ◌<◌, ◌≤◌, ◌↔◌, List, [], ◌∷◌, length, replicate, slice_get, Bool, IsSome, IsTrue, false, None, Some}
+use Rattle.std.specs.Prelude.{◌≡◌, ℕ, ◌<◌, ◌≤◌, List, [], length, replicate, slice_get, Bool, IsSome, IsTrue, None, Some}
 use Rattle.std.specs.FinMap.{get}
 use Rattle.om_isa.specs.Memory.{IsMemorySize}
 use Rattle.om_stable.specs.Calls.{IsCleanCall}

@@ -1,5 +1,5 @@
 -- Processes that fail one after another.
-use Rattle.std.specs.Prelude.{◌≡◌, ◌≢◌, ℕ, ◌<◌, ◌≤◌, length}
+use Rattle.std.specs.Prelude.{◌≡◌, ℕ, ◌<◌, ◌≤◌, length}
 use Rattle.om_interval.specs.declared.pid.TheConstants.{MAX_PROCESSES}
 use Rattle.om_manager.specs.Gatherings.{presence_of, presences_of}
 use Rattle.om_manager.specs.Sound.{IsManager}
