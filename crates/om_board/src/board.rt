@@ -297,11 +297,12 @@ impl<K: Naming> Board<K> {
     /// began, and found none to take beside the `taken` that it took. It is passed over where the process owes its messages
     /// anew, where `round` is not the manager's, and while a gathering is open. Says whether all wait.
     ///
-    /// A process that waits neither runs nor puts nor takes before it withdraws. So where as many messages were taken as put,
-    /// every inbox is empty. Each message that is kept anywhere was put since its process offered, or left out since it had been
-    /// received where its receiver stands: after the last that was refused for another reason than that it was received
-    /// before, and after its process had last run or received. So it was received, then or before, or its receiver has ended. A resend brings nothing else, no process can go on without a
-    /// message, none that has ended goes on at all, and only a receipt makes one fail: until the run ends, nothing happens.
+    /// A process that waits neither runs nor puts nor takes before it withdraws. So where all wait and as many messages were taken as
+    /// put, every inbox is empty. Take a message that its sender still keeps. The sender offered it last after it had run or received
+    /// for the last time, and after the last message that was refused for another reason than that it had been received before. It
+    /// put it then, and it was taken; or it left it out, since its receiver had received it. So the message was received, or its
+    /// receiver has ended. A resend brings nothing new, no process can go on without a message, none that has ended goes on at all,
+    /// and only a receipt makes one fail: until the run ends, nothing happens.
     pub fn wait(&mut self, pid: Pid, round: u32, put: u64, taken: u64) -> bool
         requires { pid < process_count self.old.manager }
         ensures told { MayWait self.old pid round → self.new ≡ record self.old { waiting = slice_set self.old.waiting pid (Waits put taken) } }

@@ -31,8 +31,11 @@ fn is_in(presence: &Presence) -> bool
     *presence != Presence::Away
 }
 
-/// The processes that begin an incarnation: those that failed, and those that were beyond the state.
-pub fn who_begins(presences: &[Presence; MAX_PROCESSES], state: &DepVec) -> [bool; MAX_PROCESSES]
+/// Returns which processes begin an incarnation: those that failed, and those that were beyond the state.
+pub fn new_incarnations(
+    presences: &[Presence; MAX_PROCESSES],
+    state: &DepVec,
+) -> [bool; MAX_PROCESSES]
     ensures { (p : ℕ) → p < length state.now → is_named result p ≡ begins (presence_of presences.now p) (slice_index state.now p) }
 {
     let mut who = [false; MAX_PROCESSES];

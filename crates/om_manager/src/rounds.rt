@@ -11,7 +11,7 @@ ghost use Rattle.om_interval.specs.declared.pid.TheConstants.{MAX_PROCESSES};
 use crate::answers::{FailError, Gathered, JoinError};
 use crate::manager::Manager;
 use crate::output_log::OutputLog;
-use crate::presence::{Presence, are_all_in, who_begins};
+use crate::presence::{Presence, are_all_in, new_incarnations};
 use om_interval::{MAX_PROCESSES, Pid};
 use std::alloc::{AllocError, Global};
 
@@ -141,7 +141,7 @@ impl Manager {
         ensures sound { IsManager self.new }
     {
         let state = self.records.recovery();
-        let who = who_begins(presences, &state);
+        let who = new_incarnations(presences, &state);
         self.starts.cut_all(alloc, who, &state)?;
         self.records.cut();
         cut_all(&mut self.logs);

@@ -254,17 +254,17 @@ impl<S: Stable> Member<S> {
     /// refused; those are pending no longer.
     pub fn note<O: ManagerAccess>(
         &mut self,
-        office: &mut O,
+        access: &mut O,
         alloc: Global,
         pid: Pid,
     ) -> Result<(usize, Result<(), RecordError>), NotUp>
-        ensures noted { IfOk result (λ told. HasNoted (O.state office.old) pid self.old told.0 told.1 (O.state office.new) self.new) }
+        ensures noted { IfOk result (λ told. HasNoted (O.state access.old) pid self.old told.0 told.1 (O.state access.new) self.new) }
         ensures not_up { OnErr result (IsNotUp self.old.standing) }
         ensures refused { OnErr result (self.new ≡ self.old) }
-        ensures untold { OnErr result (O.state office.new ≡ O.state office.old) }
+        ensures untold { OnErr result (O.state access.new ≡ O.state access.old) }
     {
         match &mut self.standing {
-            MemberState::Up(core) => Ok(telling::note(core, office, alloc, pid)),
+            MemberState::Up(core) => Ok(telling::note(core, access, alloc, pid)),
             _ => Err(NotUp),
         }
     }
@@ -272,21 +272,21 @@ impl<S: Stable> Member<S> {
     /// Hands in the outputs of a process that is up that the manager has not, in order, up to the first that is refused.
     pub fn hand_in<O: ManagerAccess>(
         &self,
-        office: &mut O,
+        access: &mut O,
         alloc: Global,
         pid: Pid,
     ) -> Result<Result<(), OutputError>, NotUp>
-        requires known { pid < process_count (O.state office.old) }
+        requires known { pid < process_count (O.state access.old) }
         requires taken { (core : CoreState) → self.now.standing ≡ stands.Up core → MayHandIn O.Takes pid core }
         ensures handed { IfOk result (λ end. (core : CoreState) × (self.now.standing ≡ stands.Up core)
-            × AreHandedUpTo (O.state office.old) core.round pid
-            (outputs_from core (length (held_by (O.state office.old) pid))) end (O.state office.new)) }
-        ensures keeps { OnOk result (Keeps (O.state office.old) (O.state office.new)) }
+            × AreHandedUpTo (O.state access.old) core.round pid
+            (outputs_from core (length (held_by (O.state access.old) pid))) end (O.state access.new)) }
+        ensures keeps { OnOk result (Keeps (O.state access.old) (O.state access.new)) }
         ensures not_up { OnErr result (IsNotUp self.now.standing) }
-        ensures untold { OnErr result (O.state office.new ≡ O.state office.old) }
+        ensures untold { OnErr result (O.state access.new ≡ O.state access.old) }
     {
         match &self.standing {
-            MemberState::Up(core) => Ok(handing::hand_in(core, office, alloc, pid)),
+            MemberState::Up(core) => Ok(handing::hand_in(core, access, alloc, pid)),
             _ => Err(NotUp),
         }
     }
@@ -294,19 +294,19 @@ impl<S: Stable> Member<S> {
     /// Takes a process that is up into the open gathering. Refused with what the manager answers, and then all stays.
     pub fn join<O: ManagerAccess>(
         &mut self,
-        office: &mut O,
+        access: &mut O,
         alloc: Global,
         pid: Pid,
     ) -> Result<Result<Gathered, JoinError>, NotUp>
-        ensures joined { IfOk result (λ answer. HasJoined (O.state office.old) pid self.old answer (O.state office.new) self.new) }
+        ensures joined { IfOk result (λ answer. HasJoined (O.state access.old) pid self.old answer (O.state access.new) self.new) }
         ensures not_up { OnErr result (IsNotUp self.old.standing) }
         ensures refused { OnErr result (self.new ≡ self.old) }
-        ensures untold { OnErr result (O.state office.new ≡ O.state office.old) }
+        ensures untold { OnErr result (O.state access.new ≡ O.state access.old) }
     {
         let MemberState::Up(core) = &self.standing else {
             return Err(NotUp);
         };
-        match office.join(alloc, pid, core.round(), core.interval()) {
+        match access.join(alloc, pid, core.round(), core.interval()) {
             Ok(told) => {
                 self.go_in();
                 Ok(Ok(told))
@@ -327,13 +327,13 @@ impl<S: Stable> Member<S> {
     /// the manager answers, and then all stays.
     pub fn declare<O: ManagerAccess>(
         &mut self,
-        office: &mut O,
+        access: &mut O,
         alloc: Global,
         pid: Pid,
     ) -> Result<Gathered, FailError>
-        ensures { HasDeclared (O.state office.old) pid self.old result (O.state office.new) self.new }
+        ensures { HasDeclared (O.state access.old) pid self.old result (O.state access.new) self.new }
     {
-        match office.fail(alloc, pid, self.round) {
+        match access.fail(alloc, pid, self.round) {
             Ok(told) => {
                 self.standing = MemberState::Down { declared: true };
                 Ok(told)

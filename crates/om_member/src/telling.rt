@@ -31,29 +31,29 @@ fn row_of(pid: Pid, row: &PendingRow) -> Row
 
 // Offers a row to the manager.
 fn tell<O: ManagerAccess>(
-    office: &mut O,
+    access: &mut O,
     alloc: Global,
     pid: Pid,
     round: u32,
     row: &PendingRow,
 ) -> Result<Note, RecordError>
-    ensures { IsTold (O.state office.old) round pid row.now result (O.state office.new) }
+    ensures { IsTold (O.state access.old) round pid row.now result (O.state access.new) }
 {
-    office.note(alloc, round, row_of(pid, row))
+    access.note(alloc, round, row_of(pid, row))
 }
 
 /// Offers rows of a process to the manager, in order, up to the first that is refused, and says how many were not.
 pub fn tell_all<O: ManagerAccess>(
-    office: &mut O,
+    access: &mut O,
     alloc: Global,
     pid: Pid,
     round: u32,
     rows: &[PendingRow],
 ) -> (usize, Result<(), RecordError>)
-    ensures { IsToldUpTo (O.state office.old) round pid rows.now result.0 result.1 (O.state office.new) }
+    ensures { IsToldUpTo (O.state access.old) round pid rows.now result.0 result.1 (O.state access.new) }
 {
     for count in 0..rows.len() {
-        if let Err(fault) = tell(office, alloc, pid, round, &rows[count]) {
+        if let Err(fault) = tell(access, alloc, pid, round, &rows[count]) {
             return (count, Err(fault));
         }
     }
@@ -64,17 +64,17 @@ pub fn tell_all<O: ManagerAccess>(
 /// refused; those are pending no longer.
 pub fn note<O: ManagerAccess>(
     core: &mut ProcCore,
-    office: &mut O,
+    access: &mut O,
     alloc: Global,
     pid: Pid,
 ) -> (usize, Result<(), RecordError>)
-    ensures told { IsToldUpTo (O.state office.old) core.old.round pid core.old.pending result.0 result.1 (O.state office.new) }
-    ensures keeps { Keeps (O.state office.old) (O.state office.new) }
+    ensures told { IsToldUpTo (O.state access.old) core.old.round pid core.old.pending result.0 result.1 (O.state access.new) }
+    ensures keeps { Keeps (O.state access.old) (O.state access.new) }
     ensures core { core.new ≡ with_pending core.old (drop result.0 core.old.pending) }
 {
     // The look tells what holds of every manager.
-    let _ = office.manager();
-    let (count, end) = tell_all(office, alloc, pid, core.round(), core.pending());
+    let _ = access.manager();
+    let (count, end) = tell_all(access, alloc, pid, core.round(), core.pending());
     core.noted(count);
     (count, end)
 }

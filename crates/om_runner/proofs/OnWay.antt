@@ -46,7 +46,7 @@ use Rattle.om_process.proofs.Parts.{keeps_turns, keeps_waits, keeps_delivered, m
 use Rattle.om_process.proofs.Replays.{keeps_trim, replayed_along}
 use Rattle.om_process.proofs.Runs.{turns_then, leads_more}
 use Rattle.om_runner.specs.Reports.{IsWholeRun, nothing, outputs_made}
-use Rattle.om_runner.specs.declared.cargo.Cargo.{Cargo}
+use Rattle.om_runner.specs.declared.transaction.Transaction.{Transaction}
 use Rattle.om_runner.specs.steps.Holding.{FliesOnWay}
 use Rattle.om_runner.specs.steps.Nodes.{Member, IsOnWay, AreOnWay, IsKept, IsNode}
 use Rattle.om_runner.specs.steps.Storing.{with_flight, with_spelled}
@@ -271,20 +271,20 @@ node_stored content is_clean IsSound m core next old new k due f prune is carrie
 
 -- its store has come back with what it handed over when it stood elsewhere on its way
 pub node_landed : {S : Type 0} (content : S → Content) (is_clean : S → Bool) (IsSound : S → Type 0) (m : Member) (core next : CoreState) (old new : S)
-    (cargo : Cargo) (prune : Option ℕ)
-    → IsNode content is_clean IsSound (record { member = m; core = core }) old → (IsTrue (is_clean old) → FliesOnWay m cargo)
+    (transaction : Transaction) (prune : Option ℕ)
+    → IsNode content is_clean IsSound (record { member = m; core = core }) old → (IsTrue (is_clean old) → FliesOnWay m transaction)
     → next.own ≡ core.own → next.now ≡ core.now
     → (IsTrue (is_clean new) → IsTrue (is_clean old)) → (IsTrue (is_clean new) → IsSound old → IsSound new)
-    → (IsCleanCall is_clean IsSound old new → content new ≡ with_flight (content old) cargo.flight prune)
+    → (IsCleanCall is_clean IsSound old new → content new ≡ with_flight (content old) transaction.flight prune)
     → IsNode content is_clean IsSound (record { member = m; core = next }) new
-node_landed content is_clean IsSound m core next old new cargo prune is flies own now clean sound gained = record {
+node_landed content is_clean IsSound m core next old new transaction prune is flies own now clean sound gained = record {
   own = own ∙ is.own;
   size = ap cluster_size now ∙ is.size;
   kept = record {
     sound = λ c. sound c (is.kept.sound (clean c));
     stored = λ c.
         let was = clean c in let f = flies was in
-        subst (AreOnWay m) (sym (gained (c, is.kept.sound was))) (stored_flight m f.0 f.1 cargo.flight prune (content old) (is.kept.stored was) f.2 f.3);
+        subst (AreOnWay m) (sym (gained (c, is.kept.sound was))) (stored_flight m f.0 f.1 transaction.flight prune (content old) (is.kept.stored was) f.2 f.3);
   };
   stands = λ c. subst (IsOnWay m) (sym now) (is.stands (clean c));
 }

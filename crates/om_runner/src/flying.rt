@@ -1,14 +1,14 @@
 //! Flights: what a process hands to the thread that writes its store, and what comes back from there.
 
 ghost use Rattle.std.specs.Prelude.{◌≡◌, ◌+◌, ◌≤◌, IfSome, IsErrOf, OnErr, OnOk, length};
-ghost use Rattle.om_runner.specs.steps.Flying.{IsErrand, prune_of};
+ghost use Rattle.om_runner.specs.steps.Flying.{IsWriteRequest, prune_of};
 ghost use Rattle.om_runner.specs.steps.Storing.{with_flight};
 ghost use Rattle.om_stable.specs.Calls.{IsCleanCall, UsesStore};
 ghost use Rattle.om_stable.specs.declared.stable.TheConstants.{INTERVALS};
 
-use crate::cargo::{Cargo, Went};
 use crate::keeping::Deposit;
 use crate::node::write;
+use crate::transaction::{SentStore, Transaction};
 use crossbeam_channel::{Receiver, Sender, bounded};
 use om_board::Bell;
 use om_stable::{Ledger, Stable, StoreError};
@@ -19,31 +19,31 @@ use std::sync::Wait;
 
 // A store, and what is to be stored there.
 #[derive(Drop)]
-pub(crate) struct Errand<J: Series, S: Stable> {
+pub(crate) struct WriteRequest<J: Series, S: Stable> {
     pub(crate) store: Box<S>,
-    pub(crate) cargo: Cargo,
-    // Of this store and this cargo.
-    pub(crate) ticket: Ticket<J, Went<S>>,
+    pub(crate) transaction: Transaction,
+    // Of this store and this transaction.
+    pub(crate) ticket: Ticket<J, SentStore<S>>,
 }
 
-impl<J: Series, S: Stable> Model for Errand<J, S> {
-    ghost use Rattle.om_runner.specs.steps.Flying.{ErrandState, IsErrand};
+impl<J: Series, S: Stable> Model for WriteRequest<J, S> {
+    ghost use Rattle.om_runner.specs.steps.Flying.{WriteRequestState, IsWriteRequest};
 
-    ghost Value = { ErrandState S };
+    ghost Value = { WriteRequestState S };
 
-    ghost view = { λ e. record { store = e.store.value; cargo = e.cargo; ticket = e.ticket } };
+    ghost view = { λ e. record { store = e.store.value; transaction = e.transaction; ticket = e.ticket } };
 
-    ghost invariant = { λ e. IsErrand (record { store = e.store.value; cargo = e.cargo; ticket = e.ticket }) };
+    ghost invariant = { λ e. IsWriteRequest (record { store = e.store.value; transaction = e.transaction; ticket = e.ticket }) };
 }
 
 // A store that comes back, and whether it took what it was given.
 #[derive(Drop)]
 pub(crate) struct Landing<J: Series, S: Stable> {
     pub(crate) store: Box<S>,
-    pub(crate) cargo: Cargo,
+    pub(crate) transaction: Transaction,
     pub(crate) told: Result<(), StoreError>,
     // Of the store as it went.
-    pub(crate) ticket: Ticket<J, Went<S>>,
+    pub(crate) ticket: Ticket<J, SentStore<S>>,
 }
 
 impl<J: Series, S: Stable> Model for Landing<J, S> {
@@ -51,80 +51,90 @@ impl<J: Series, S: Stable> Model for Landing<J, S> {
 
     ghost Value = { LandingState S };
 
-    ghost view = { λ l. record { store = l.store.value; cargo = l.cargo; told = l.told; ticket = l.ticket } };
+    ghost view = { λ l. record { store = l.store.value; transaction = l.transaction; told = l.told; ticket = l.ticket } };
 
     ghost invariant = { λ l. IsLanding S.content S.failed S.is_clean S.IsSound
-        (record { store = l.store.value; cargo = l.cargo; told = l.told; ticket = l.ticket }) };
+        (record { store = l.store.value; transaction = l.transaction; told = l.told; ticket = l.ticket }) };
 }
 
-impl<J: Series, S: Ledger> Errand<J, S> {
+impl<J: Series, S: Ledger> WriteRequest<J, S> {
     // Stores it.
     pub(crate) fn fly(self, alloc: Global) -> Landing<J, S>
         ensures { result.ticket ≡ self.ticket }
     {
-        let Errand {
+        let WriteRequest {
             mut store,
-            cargo,
+            transaction,
             ticket,
         } = self;
-        let told = store_cargo(&mut *store, alloc, &cargo);
+        let told = store_transaction(&mut *store, alloc, &transaction);
         Landing {
             store,
-            cargo,
+            transaction,
             told,
             ticket,
         }
     }
 }
 
-fn store_cargo<S: Ledger>(store: &mut S, alloc: Global, cargo: &Cargo) -> Result<(), StoreError>
-    requires { cargo.now.flight.first + length cargo.now.flight.receipts.items ≤ INTERVALS }
+fn store_transaction<S: Ledger>(
+    store: &mut S,
+    alloc: Global,
+    transaction: &Transaction,
+) -> Result<(), StoreError>
+    requires { transaction.now.flight.first + length transaction.now.flight.receipts.items ≤ INTERVALS }
     ensures put { IsCleanCall S.is_clean S.IsSound store.old store.new
-        → OnOk result (S.content store.new ≡ with_flight (S.content store.old) cargo.now.flight (prune_of cargo.now)) }
+        → OnOk result (S.content store.new ≡ with_flight (S.content store.old) transaction.now.flight (prune_of transaction.now)) }
     ensures refused { IsCleanCall S.is_clean S.IsSound store.old store.new
         → OnErr result (S.content store.new ≡ S.content store.old) }
     ensures used { UsesStore S.failed S.is_clean S.IsSound store.old (IsErrOf result StoreError.Fault) store.new }
 {
-    match &cargo.due {
+    match &transaction.due {
         Some(due) => {
             let prune_to = Some(due.checkpoint);
-            write(store, alloc, &cargo.flight, &due.deposit, prune_to)
+            write(store, alloc, &transaction.flight, &due.deposit, prune_to)
         }
-        None => write(store, alloc, &cargo.flight, &Deposit::none(alloc), None),
+        None => write(
+            store,
+            alloc,
+            &transaction.flight,
+            &Deposit::none(alloc),
+            None,
+        ),
     }
 }
 
 // The way from a process to the thread that writes its store, and back. One flight is under way at a time, so each holds one.
 #[derive(Drop)]
 pub(crate) struct FlightChannel<J: Series, S: Stable> {
-    errands: Sender<Errand<J, S>, Global>,
+    requests: Sender<WriteRequest<J, S>, Global>,
     landings: Receiver<Landing<J, S>, Global>,
-    book: Book<J, Went<S>>,
+    book: Book<J, SentStore<S>>,
 }
 
 // The other ends, which that thread has.
 #[derive(Drop)]
 pub(crate) struct FarEnds<J: Series, S: Stable> {
-    errands: Receiver<Errand<J, S>, Global>,
+    requests: Receiver<WriteRequest<J, S>, Global>,
     landings: Sender<Landing<J, S>, Global>,
 }
 
-// A line and its far ends.
+// Makes a channel and its far ends. Refused where memory ran out.
 pub(crate) fn flight_channel<J: Series, S: Stable>(
     alloc: Global,
-    opened: Opened<Went<S>>,
+    opened: Opened<SentStore<S>>,
 ) -> Result<(FlightChannel<J, S>, FarEnds<J, S>), AllocError>
     requires { opened.seen.book ≡ J.book }
 {
-    let (to, errands) = bounded(alloc, 1)?;
+    let (to, requests) = bounded(alloc, 1)?;
     let (landings, from) = bounded(alloc, 1)?;
     Ok((
         FlightChannel {
-            errands: to,
+            requests: to,
             landings: from,
             book: opened.named::<J>(),
         },
-        FarEnds { errands, landings },
+        FarEnds { requests, landings },
     ))
 }
 
@@ -133,13 +143,13 @@ impl<J: Series, S: Stable> FlightChannel<J, S> {
     pub(crate) fn issue(
         &mut self,
         store: &Box<S>,
-        cargo: &Cargo,
-    ) -> Option<(Ticket<J, Went<S>>, Ticket<J, Went<S>>)>
-        ensures ticket { IfSome result (λ r. IsErrand (record { store = store.now.value; cargo = cargo.now; ticket = r.0 })) }
+        transaction: &Transaction,
+    ) -> Option<(Ticket<J, SentStore<S>>, Ticket<J, SentStore<S>>)>
+        ensures ticket { IfSome result (λ r. IsWriteRequest (record { store = store.now.value; transaction = transaction.now; ticket = r.0 })) }
         ensures stub { IfSome result (λ r. r.1 ≡ r.0) }
     {
-        let went = Went::of(store, cargo);
-        self.book.issue(&went)
+        let sent = SentStore::of(store, transaction);
+        self.book.issue(&sent)
     }
 }
 
@@ -149,9 +159,9 @@ impl<J: Series, S: Ledger> FlightChannel<J, S> {
         &self,
         rt: &R,
         alloc: Global,
-        errand: Errand<J, S>,
+        request: WriteRequest<J, S>,
     ) -> Option<Landing<J, S>> {
-        match self.errands.send(rt, errand) {
+        match self.requests.send(rt, request) {
             Ok(()) => None,
             Err(error) => Some(error.into_inner().fly(alloc)),
         }
@@ -185,10 +195,10 @@ pub(crate) fn write_all<J: Series, S: Ledger, R: Wait>(
     bell: &Bell,
 ) {
     for _ in rt.forever() {
-        let Ok(errand) = far.errands.recv(rt) else {
+        let Ok(request) = far.requests.recv(rt) else {
             return;
         };
-        let landing = errand.fly(alloc);
+        let landing = request.fly(alloc);
         if far.landings.send(rt, landing).is_err() {
             return;
         }

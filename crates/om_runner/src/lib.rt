@@ -13,14 +13,13 @@
 //! - `taking_up`: how a process is taken up from what an earlier run left
 //! - `turns` and `worker`: what a thread does, turn by turn; `worker_state` (where its process stands), `worker::rounds`, `worker::storing`, `worker::resting`; `barrier` (where it waits until all are up), `idle` and `spin_policy` (how it yields
 //!   and sleeps), `worker_fault` (why it stops)
-//! - what a worker has: `node` (a process over its store), `cargo` and `flying` (how what it stores gets there while it goes on), `links` (its ends of inboxes), `received` (what a resend may leave
+//! - what a worker has: `node` (a process over its store), `transaction` and `flying` (how what it stores gets there while it goes on), `links` (its ends of inboxes), `received` (what a resend may leave
 //!   out), `manager_link` and `locked_board` (the manager), `keeping` (what its store is given for a run that takes it up)
 //! - `ground`: what all threads have in common
 //! - `followed`, with `follower`, `following` and `followed_outputs`: outputs that are told as they are released
 #![tactic(auto)]
 
 mod barrier;
-mod cargo;
 mod cluster;
 mod config;
 mod fault;
@@ -47,6 +46,7 @@ mod settle;
 mod spin_policy;
 mod starting;
 mod taking_up;
+mod transaction;
 mod turns;
 mod watched;
 mod worker;

@@ -21,9 +21,9 @@ ghost use Rattle.om_runner.specs.steps.Storing.{HasStored, with_flight};
 ghost use Rattle.om_stable.specs.Calls.{IsCleanCall, UsesStore};
 ghost use Rattle.om_stable.specs.declared.stable.TheConstants.{INTERVALS};
 
-use crate::cargo::{Cargo, Went};
-use crate::flying::{Errand, FlightChannel, Landing};
+use crate::flying::{FlightChannel, Landing, WriteRequest};
 use crate::keeping::{Deposit, Due};
+use crate::transaction::{SentStore, Transaction};
 use crate::worker_fault::WorkerFault;
 use om_format::Message;
 use om_interval::{Bounds, Pid, Starts, Verdict};
@@ -49,7 +49,7 @@ pub(crate) struct Node<'a, J: Series, S: Stable> {
     core: Box<ProcCore>,
     hold: Hold<J, S>,
     // Where the store is slow, the way to the thread that writes it.
-    line: Option<FlightChannel<J, S>>,
+    channel: Option<FlightChannel<J, S>>,
 }
 
 // Where the store of a process is.
@@ -57,7 +57,7 @@ pub(crate) struct Node<'a, J: Series, S: Stable> {
 pub(crate) enum Hold<J: Series, S: Stable> {
     Here(Box<S>),
     // With the flight that is under way, and has a ticket like this.
-    Away(Ticket<J, Went<S>>),
+    Away(Ticket<J, SentStore<S>>),
 }
 
 impl<'a, J: Series, S: Stable> Model for Node<'a, J, S> {
@@ -72,7 +72,7 @@ impl<'a, J: Series, S: Stable> Model for Node<'a, J, S> {
       member = record { program = program_of d.image.now; own = d.pid; n = d.n };
       core = d.core.value;
       away = is_away d.hold;
-      slow = is_some d.line;
+      slow = is_some d.channel;
     } };
 
     ghost invariant = { λ d. IsHeld S.content S.is_clean S.IsSound
@@ -86,7 +86,7 @@ pub(crate) struct DownNode<'a, J: Series, S: Stable> {
     pid: Pid,
     n: usize,
     store: Box<S>,
-    line: Option<FlightChannel<J, S>>,
+    channel: Option<FlightChannel<J, S>>,
 }
 
 impl<'a, J: Series, S: Stable> Model for DownNode<'a, J, S> {
@@ -129,7 +129,7 @@ impl<'a, J: Series, S: Stable> Node<'a, J, S> {
         pid: Pid,
         n: usize,
         store: S,
-        line: Option<FlightChannel<J, S>>,
+        channel: Option<FlightChannel<J, S>>,
     ) -> Result<Node<'a, J, S>, StartFault>
         requires sound { IsTrue (S.is_clean store) → S.IsSound store }
         requires empty { IsTrue (S.is_clean store) → S.content store ≡ nothing }
@@ -152,7 +152,7 @@ impl<'a, J: Series, S: Stable> Node<'a, J, S> {
             n,
             core,
             hold: Hold::Here(store),
-            line,
+            channel,
         })
     }
 
@@ -203,32 +203,32 @@ impl<'a, J: Series, S: Stable> Node<'a, J, S> {
     // longer.
     pub(crate) fn note<O: ManagerAccess>(
         &mut self,
-        office: &mut O,
+        access: &mut O,
         alloc: Global,
     ) -> (usize, Result<(), RecordError>)
-        ensures told { IsToldUpTo (O.state office.old) self.old.core.round self.old.member.own self.old.core.pending
-            result.0 result.1 (O.state office.new) }
-        ensures keeps { Keeps (O.state office.old) (O.state office.new) }
+        ensures told { IsToldUpTo (O.state access.old) self.old.core.round self.old.member.own self.old.core.pending
+            result.0 result.1 (O.state access.new) }
+        ensures keeps { Keeps (O.state access.old) (O.state access.new) }
         ensures core { self.new.core ≡ with_pending self.old.core (drop result.0 self.old.core.pending) }
         ensures member { self.new.member ≡ self.old.member }
         ensures away { self.new.away ≡ self.old.away }
     {
-        om_member::note(&mut self.core, office, alloc, self.pid)
+        om_member::note(&mut self.core, access, alloc, self.pid)
     }
 
     // Hands in the outputs that the manager has not, up to the first that is refused.
     pub(crate) fn hand_in<O: ManagerAccess>(
         &self,
-        office: &mut O,
+        access: &mut O,
         alloc: Global,
     ) -> Result<(), OutputError>
-        requires known { self.now.member.own < process_count (O.state office.old) }
+        requires known { self.now.member.own < process_count (O.state access.old) }
         requires taken { TakesFrom O.Takes S.is_clean self.now.member }
-        ensures keeps { Keeps (O.state office.old) (O.state office.new) }
-        ensures handed { let p = self.now.member.own in AreHandedUpTo (O.state office.old) self.now.core.round p
-            (outputs_from self.now.core (length (held_by (O.state office.old) p))) result (O.state office.new) }
+        ensures keeps { Keeps (O.state access.old) (O.state access.new) }
+        ensures handed { let p = self.now.member.own in AreHandedUpTo (O.state access.old) self.now.core.round p
+            (outputs_from self.now.core (length (held_by (O.state access.old) p))) result (O.state access.new) }
     {
-        om_member::hand_in(&self.core, office, alloc, self.pid)
+        om_member::hand_in(&self.core, access, alloc, self.pid)
     }
 
     // Drops what the process need not keep.
@@ -269,7 +269,7 @@ impl<'a, J: Series, S: Stable> Node<'a, J, S> {
             n,
             core,
             hold,
-            line,
+            channel,
         } = self;
         Box::into_inner(core).fail();
         let Hold::Here(store) = hold else {
@@ -280,7 +280,7 @@ impl<'a, J: Series, S: Stable> Node<'a, J, S> {
             pid,
             n,
             store,
-            line,
+            channel,
         }
     }
 
@@ -340,17 +340,17 @@ impl<'a, J: Series, S: Ledger> Node<'a, J, S> {
         k: usize,
         is_checkpoint_due: bool,
         due: Option<Due>,
-    ) -> Result<Cargo, WorkerFault>
+    ) -> Result<Transaction, WorkerFault>
         ensures member { self.new.member ≡ self.old.member }
         ensures core { self.new.core ≡ self.old.core }
-        ensures carries { IfOk result (λ cargo. Carries k is_checkpoint_due self.old.core cargo.flight) }
-        ensures due { IfOk result (λ cargo. cargo.due ≡ due) }
+        ensures carries { IfOk result (λ transaction. Carries k is_checkpoint_due self.old.core transaction.flight) }
+        ensures due { IfOk result (λ transaction. transaction.due ≡ due) }
     {
         // The interval tells that those of the receipts are numbers of intervals.
         let _ = self.core.interval();
         let flight = self.core.hand_over(alloc, k, is_checkpoint_due)?;
-        let cargo = Cargo { flight, due };
-        Ok(cargo)
+        let transaction = Transaction { flight, due };
+        Ok(transaction)
     }
 
     // Begins a flight: has the first k receipts of the log, all where it is shorter, a checkpoint of now where one is due, and what is
@@ -367,25 +367,25 @@ impl<'a, J: Series, S: Ledger> Node<'a, J, S> {
         ensures member { self.new.member ≡ self.old.member }
         ensures core { self.new.core ≡ self.old.core }
     {
-        let cargo = self.pack(alloc, k, is_checkpoint_due, due)?;
-        let Some(line) = &mut self.line else {
+        let transaction = self.pack(alloc, k, is_checkpoint_due, due)?;
+        let Some(channel) = &mut self.channel else {
             return Err(WorkerFault::Refused);
         };
         let Hold::Here(store) = &self.hold else {
             return Err(WorkerFault::Refused);
         };
-        let Some((ticket, stub)) = line.issue(store, &cargo) else {
+        let Some((ticket, stub)) = channel.issue(store, &transaction) else {
             return Err(WorkerFault::Refused);
         };
         let Hold::Here(store) = replace(&mut self.hold, Hold::Away(stub)) else {
             return Err(WorkerFault::Refused);
         };
-        let errand = Errand {
+        let request = WriteRequest {
             store,
-            cargo,
+            transaction,
             ticket,
         };
-        Ok(line.send(rt, alloc, errand))
+        Ok(channel.send(rt, alloc, request))
     }
 }
 
@@ -394,7 +394,7 @@ impl<'a, J: Series, S: Stable> Node<'a, J, S> {
     pub(crate) fn is_slow(&self) -> bool
         ensures { result ≡ self.now.slow }
     {
-        self.line.is_some()
+        self.channel.is_some()
     }
 
     // Returns whether a flight is under way.
@@ -409,28 +409,28 @@ impl<'a, J: Series, S: Stable> Node<'a, J, S> {
 
     // Returns what came back of the flight that is under way, if it has landed.
     pub(crate) fn look<R: Wait>(&self, rt: &R) -> Option<Landing<J, S>> {
-        self.line.as_ref()?.look(rt)
+        self.channel.as_ref()?.look(rt)
     }
 
     // The same, once it has landed.
     pub(crate) fn wait<R: Wait>(&self, rt: &R) -> Option<Landing<J, S>> {
-        self.line.as_ref()?.wait(rt)
+        self.channel.as_ref()?.wait(rt)
     }
 
     // Takes the store back, and where it took what it was given, the process notes that it is stored. Where it refused, all that is
     // still in the log.
     #[inline(never)]
-    pub(crate) fn land(&mut self, landing: Landing<J, S>) -> Result<Cargo, WorkerFault>
+    pub(crate) fn land(&mut self, landing: Landing<J, S>) -> Result<Transaction, WorkerFault>
         ensures member { self.new.member ≡ self.old.member }
         ensures took { OnOk result (IsOk landing.told) }
         ensures here { OnOk result (self.new.away ≡ false) }
-        ensures cargo { IfOk result (λ cargo. cargo ≡ landing.cargo) }
-        ensures landed { IfOk result (λ cargo. self.new.core ≡ landed cargo.flight self.old.core) }
+        ensures transaction { IfOk result (λ transaction. transaction ≡ landing.transaction) }
+        ensures landed { IfOk result (λ transaction. self.new.core ≡ landed transaction.flight self.old.core) }
         ensures refused { OnErr result (self.new.core ≡ self.old.core) }
     {
         let Landing {
             store,
-            cargo,
+            transaction,
             told,
             ticket,
         } = landing;
@@ -442,8 +442,8 @@ impl<'a, J: Series, S: Stable> Node<'a, J, S> {
         }
         self.hold = Hold::Here(store);
         told?;
-        self.core.land(&cargo.flight)?;
-        Ok(cargo)
+        self.core.land(&transaction.flight)?;
+        Ok(transaction)
     }
 }
 
@@ -489,7 +489,7 @@ impl<'a, J: Series, S: Stable> DownNode<'a, J, S> {
         pid: Pid,
         n: usize,
         store: S,
-        line: Option<FlightChannel<J, S>>,
+        channel: Option<FlightChannel<J, S>>,
     ) -> Result<DownNode<'a, J, S>, AllocError>
         requires { AreNeverClean S.is_clean }
         ensures { IfOk result (λ node. node ≡ record { program = program_of image.entry.now; own = pid; n = n }) }
@@ -500,7 +500,7 @@ impl<'a, J: Series, S: Stable> DownNode<'a, J, S> {
             pid,
             n,
             store,
-            line,
+            channel,
         })
     }
 
@@ -524,7 +524,7 @@ impl<'a, J: Series, S: Stable> DownNode<'a, J, S> {
             pid,
             n,
             mut store,
-            line,
+            channel,
         } = self;
         match (Down { pid, n }).roll_back(alloc, &mut *store, starts, verdict) {
             Ok(core) => {
@@ -535,7 +535,7 @@ impl<'a, J: Series, S: Stable> DownNode<'a, J, S> {
                     n,
                     core,
                     hold: Hold::Here(store),
-                    line,
+                    channel,
                 })
             }
             Err((_, fault)) => Err(WorkerFault::from(fault)),

@@ -10,7 +10,6 @@ ghost use Rattle.om_runner.specs.steps.Ends.{AreEndsOf, AreOwnEnds, IsEndOf, IsO
 ghost use Rattle.om_runner.specs.steps.Nodes.{AreAlwaysClean};
 ghost use Rattle.om_runner.specs.steps.Wiring.{IsWired};
 
-use crate::cargo::Went;
 use crate::config::Config;
 use crate::fault::RunFault;
 use crate::flying::{FlightChannel, flight_channel, write_all};
@@ -19,6 +18,7 @@ use crate::links::Links;
 use crate::network::Ends;
 use crate::opener::{Gate, Opener};
 use crate::results::Finished;
+use crate::transaction::SentStore;
 use crate::working::{Job, work_or_stop};
 use om_board::{Inbox, Naming, Pass};
 use om_interval::{MAX_PROCESSES, Pid};
@@ -92,7 +92,7 @@ fn start<
 }
 
 // Starts, where stores are slow, a thread of the scope that writes the store of a process, and the way to it; None where it could not be made.
-fn started_line<
+fn started_channel<
     's,
     E,
     K: Naming + Send + Sync,
@@ -104,7 +104,7 @@ fn started_line<
     scope: &Scope<'s, E>,
     cluster: &'s Cluster<'s, K, R, G, O>,
     own: Pid,
-    opened: Opened<Went<O::Store>>,
+    opened: Opened<SentStore<O::Store>>,
 ) -> Option<Option<FlightChannel<J, O::Store>>>
     requires { opened.seen.book ≡ J.book }
 {
@@ -113,12 +113,12 @@ fn started_line<
     }
     let (rt, alloc) = (cluster.rt, cluster.alloc);
     let bell = cluster.bells.get(own.index())?;
-    let Ok((line, far)) = flight_channel::<J, O::Store>(alloc, opened) else {
+    let Ok((channel, far)) = flight_channel::<J, O::Store>(alloc, opened) else {
         return None;
     };
     let writer = scope.spawn(move || write_all(rt, alloc, far, bell));
     match writer {
-        Ok(_) => Some(Some(line)),
+        Ok(_) => Some(Some(channel)),
         Err(_) => None,
     }
 }
@@ -138,7 +138,7 @@ fn start_apart<
     image: &'s Image,
     links: Links<'s>,
     pass: Pass<K>,
-    opened: Opened<Went<O::Store>>,
+    opened: Opened<SentStore<O::Store>>,
 ) -> Option<Handle<'s, K, O::Store>>
     requires sized { links.n ≡ K.cell.n }
     requires program { slice_get K.programs links.own ≡ Some (program_of image.now) }
@@ -150,8 +150,17 @@ fn start_apart<
     ensures own { IfSome result (λ h. h.promise.own ≡ links.entry.own) }
     ensures n { IfSome result (λ h. h.promise.n ≡ K.cell.n) }
 {
-    let line = started_line::<E, K, J, R, G, O>(scope, cluster, links.own(), opened)?;
-    start(scope, cluster, image, Job { links, pass, line })
+    let channel = started_channel::<E, K, J, R, G, O>(scope, cluster, links.own(), opened)?;
+    start(
+        scope,
+        cluster,
+        image,
+        Job {
+            links,
+            pass,
+            channel,
+        },
+    )
 }
 
 // All processes, each on a thread of its own; None where a thread could not be made, and then all are stopped.

@@ -485,7 +485,7 @@ impl<'a, K: Naming> Worker<'a, K> {
         let (standing, limits) = self
             .manager_link
             .meet(rt, alloc, node, ended, is_patient, &mut self.diary)?;
-        self.heed(alloc, node, limits, ended)?;
+        self.apply_limits(alloc, node, limits, ended)?;
         Ok(standing)
     }
 

@@ -37,7 +37,7 @@ pub(crate) struct Job<'a, K: Naming, J: Series, S: Stable> {
     pub(crate) links: Links<'a>,
     pub(crate) pass: Pass<K>,
     // Where stores are slow, the way to the thread that writes that of the process.
-    pub(crate) line: Option<FlightChannel<J, S>>,
+    pub(crate) channel: Option<FlightChannel<J, S>>,
     ghost sized: { links.n ≡ K.cell.n },
 }
 
@@ -63,7 +63,7 @@ fn begin<'a, J: Series, R, O: Opener<R>>(
     image: &'a Image,
     pid: Pid,
     n: usize,
-    line: Option<FlightChannel<J, O::Store>>,
+    channel: Option<FlightChannel<J, O::Store>>,
 ) -> Result<Node<'a, J, O::Store>, RunFault>
     ensures member { IfOk result (λ node. node.member ≡ record { program = program_of image.entry.now; own = pid; n = n }) }
     ensures fault { IfErr result (IsFaultBy pid) }
@@ -72,7 +72,7 @@ fn begin<'a, J: Series, R, O: Opener<R>>(
         Ok(store) => store,
         Err(fault) => return Err(open_fault(fault, pid)),
     };
-    match Node::start(alloc, image, pid, n, store, line) {
+    match Node::start(alloc, image, pid, n, store, channel) {
         Ok(node) => Ok(node),
         Err(fault) => Err(load_fault(fault, pid)),
     }
@@ -84,7 +84,7 @@ fn admit<'a, K: Naming, J: Series, R: Wait, G: Gate, O: Opener<R>>(
     image: &'a Image,
     pid: Pid,
     n: usize,
-    line: Option<FlightChannel<J, O::Store>>,
+    channel: Option<FlightChannel<J, O::Store>>,
 ) -> Result<(Node<'a, J, O::Store>, Vec<u32>), RunFault>
     ensures member { IfOk result (λ made. made.0.member ≡ record { program = program_of image.entry.now; own = pid; n = n }) }
     ensures asked { OnOk result (1 ≤ cluster.now.plan.now.gate_turns) }
@@ -100,7 +100,7 @@ fn admit<'a, K: Naming, J: Series, R: Wait, G: Gate, O: Opener<R>>(
     let Ok(kills) = kills_of(alloc, &plan.kills, pid) else {
         return Err(RunFault::Memory);
     };
-    let node = begin(rt, alloc, cluster.opener, image, pid, n, line)?;
+    let node = begin(rt, alloc, cluster.opener, image, pid, n, channel)?;
     Ok((node, kills))
 }
 
@@ -119,10 +119,10 @@ fn work_anew<'a, K: Naming, J: Series, R: Wait + Clock, G: Gate, O: Opener<R>>(
     let Job {
         links,
         pass,
-        line,
+        channel,
         ..
     } = job;
-    let (node, kills) = admit(cluster, image, links.own(), links.n(), line)?;
+    let (node, kills) = admit(cluster, image, links.own(), links.n(), channel)?;
     let Cluster {
         rt,
         alloc,
@@ -163,7 +163,7 @@ fn work_on<'a, K: Naming, J: Series, R: Wait + Clock, G: Gate, O: Opener<R>>(
     let Job {
         links,
         pass,
-        line,
+        channel,
         ..
     } = job;
     let (pid, n) = (links.own(), links.n());
@@ -188,7 +188,7 @@ fn work_on<'a, K: Naming, J: Series, R: Wait + Clock, G: Gate, O: Opener<R>>(
         alloc,
         cluster.observers,
     );
-    let (down_node, left) = take_up(cluster, &mut worker, image, line)?;
+    let (down_node, left) = take_up(cluster, &mut worker, image, channel)?;
     take_turns(
         rt,
         alloc,

@@ -46,7 +46,7 @@ impl From<OutputError> for TakeUpFault {
 ///
 /// Refused with `Row` at the first row that the manager refuses, and with `Output` at the first output; it has taken what stands before.
 pub fn take_up<O: ManagerAccess, M: HandedOutput>(
-    office: &mut O,
+    access: &mut O,
     alloc: Global,
     pid: Pid,
     round: u32,
@@ -54,10 +54,10 @@ pub fn take_up<O: ManagerAccess, M: HandedOutput>(
     outputs: &[M],
 ) -> Result<(), TakeUpFault>
     requires { AreTaken O.Takes pid (map M.made outputs.now) }
-    ensures { IsTakenUp (O.state office.old) round pid rows.now (map M.made outputs.now) result (O.state office.new) }
+    ensures { IsTakenUp (O.state access.old) round pid rows.now (map M.made outputs.now) result (O.state access.new) }
 {
-    let (_, end) = tell_all(office, alloc, pid, round, rows);
+    let (_, end) = tell_all(access, alloc, pid, round, rows);
     end?;
-    hand_all(office, alloc, pid, round, outputs)?;
+    hand_all(access, alloc, pid, round, outputs)?;
     Ok(())
 }

@@ -308,8 +308,8 @@ impl Timeline {
         Ok(())
     }
 
-    /// Goes to a position, forward or back, and tells whether it is one of those that were played: else it stays. Refused where memory
-    /// ran out, and then it stands at a position before that.
+    /// Goes to a position, forward or back. Returns whether that position was played; where it was not, nothing moves. Refused where
+    /// memory ran out: then it stands at some position before that one.
     pub fn go_to(&mut self, alloc: Global, to: Position) -> Result<bool, AllocError>
         ensures there { IfOk result (λ there. there ≡ true → self.new ≡ at self.old to.event to.turns) }
         ensures not_there { IfOk result (λ there. there ≡ false → self.new ≡ self.old) }

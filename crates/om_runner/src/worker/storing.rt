@@ -109,8 +109,8 @@ impl<'a, K: Naming> Worker<'a, K> {
         }
     }
 
-    // Heeds the limits that were read, where there are some; of a process that has ended nothing stays due.
-    pub(super) fn heed<J: Series, S: Ledger>(
+    // Applies the limits that were read, where there are some; of a process that has ended nothing stays due.
+    pub(super) fn apply_limits<J: Series, S: Ledger>(
         &mut self,
         alloc: Global,
         node: &mut Node<'a, J, S>,
@@ -125,16 +125,16 @@ impl<'a, K: Naming> Worker<'a, K> {
         ensures untrimmed { IfNone limits (node.new.core.now ≡ node.old.core.now) }
     {
         if let Some(limits) = limits {
-            self.owe(alloc, node, &limits)?;
+            self.trim_to_limits(alloc, node, &limits)?;
         }
         if ended {
-            self.settle(alloc, node)?;
+            self.store_due(alloc, node)?;
         }
         Ok(())
     }
 
     // Trims the process by its limits. What its store need not keep any longer goes with what is stored next.
-    fn owe<J: Series, S: Ledger>(
+    fn trim_to_limits<J: Series, S: Ledger>(
         &mut self,
         alloc: Global,
         node: &mut Node<'a, J, S>,
@@ -148,7 +148,7 @@ impl<'a, K: Naming> Worker<'a, K> {
         ensures trimmed { OnOk result (node.new.core.now
             ≡ trimmed (limits.now.bounds.got ++ limits.now.bounds.released ∷ []) node.old.core.now) }
     {
-        self.settle(alloc, node)?;
+        self.store_due(alloc, node)?;
         let deposit = match &self.kept {
             Some(kept) => kept.deposit(alloc, node.core(), limits, self.past.senders())?,
             None => Deposit::none(alloc),
@@ -161,8 +161,8 @@ impl<'a, K: Naming> Worker<'a, K> {
         Ok(())
     }
 
-    // Does in the store what is due there.
-    fn settle<J: Series, S: Ledger>(
+    // Stores what is due there.
+    fn store_due<J: Series, S: Ledger>(
         &mut self,
         alloc: Global,
         node: &mut Node<'a, J, S>,
@@ -310,13 +310,13 @@ impl<'a, K: Naming> Worker<'a, K> {
         ensures member { node.new.member ≡ node.old.member }
         ensures here { OnOk result (node.new.away ≡ false) }
         ensures now { node.new.core.now ≡ node.old.core.now }
-        ensures landed { OnOk result (node.new.core ≡ landed landing.cargo.flight node.old.core) }
+        ensures landed { OnOk result (node.new.core ≡ landed landing.transaction.flight node.old.core) }
         ensures refused { OnErr result (node.new.core ≡ node.old.core) }
     {
         self.is_away = false;
-        let cargo = node.land(landing)?;
-        self.diary.landed(cargo.flight.receipts.len());
-        if let (Some(kept), Some(due)) = (&mut self.kept, &cargo.due) {
+        let transaction = node.land(landing)?;
+        self.diary.landed(transaction.flight.receipts.len());
+        if let (Some(kept), Some(due)) = (&mut self.kept, &transaction.due) {
             kept.add(&due.deposit);
         }
         Ok(())

@@ -13,6 +13,6 @@ pub loop-i-preserved : goal.loop-i-preserved
 loop-i-preserved g c =
     let state = g.O.ManagerAccess.state in let made = g.M.HandedOutput.made in
     let ms = c.args.outputs.now in let i = c.loop-i.i in let m = c.index-outputs-i.result in
-    subst (λ l. AreHanded (state c.args.office.now) c.args.round c.args.pid l (state c.hand_one.new.office)) (made_next made ms i m c.loop-i-test.true c.index-outputs-i.is)
-    (handed_next (state c.args.office.now) (state c.loop-i.office) (state c.hand_one.new.office) c.args.round c.args.pid (take i (map made ms)) (made m) c.in_ok-hand_one.field-0 c.loop-i.invariant
-    (subst (λ a. IsHanded (state c.loop-i.office) c.args.round c.args.pid (made m) a (state c.hand_one.new.office)) c.in_ok-hand_one.was c.hand_one.ensures))
+    subst (λ l. AreHanded (state c.args.access.now) c.args.round c.args.pid l (state c.hand_one.new.access)) (made_next made ms i m c.loop-i-test.true c.index-outputs-i.is)
+    (handed_next (state c.args.access.now) (state c.loop-i.access) (state c.hand_one.new.access) c.args.round c.args.pid (take i (map made ms)) (made m) c.in_ok-hand_one.field-0 c.loop-i.invariant
+    (subst (λ a. IsHanded (state c.loop-i.access) c.args.round c.args.pid (made m) a (state c.hand_one.new.access)) c.in_ok-hand_one.was c.hand_one.ensures))

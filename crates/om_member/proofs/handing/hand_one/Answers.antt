@@ -10,7 +10,7 @@ note_output-requires g c =
 
 pub returns : goal.returns
 returns g c = record {
-  answers = as_made (λ seq output. NotesOutput (g.O.ManagerAccess.state c.args.office.now) c.args.pid c.args.round seq output c.note_output.result (g.O.ManagerAccess.state c.note_output.new.self))
+  answers = as_made (λ seq output. NotesOutput (g.O.ManagerAccess.state c.args.access.now) c.args.pid c.args.round seq output c.note_output.result (g.O.ManagerAccess.state c.note_output.new.self))
       c.number-number.result c.interval-interval.result c.bytes.result.now (g.M.HandedOutput.made c.args.output.now) c.number-number.ensures c.interval-interval.ensures c.bytes.ensures c.note_output.ensures.answer;
   keeps = record { sound = c.note_output.ensures.sound; below = c.note_output.ensures.not_lowered; released = c.note_output.ensures.released };
 }

@@ -13,16 +13,16 @@ pub returns-in_err-end : goal.returns-in_err-end
 returns-in_err-end g c =
     let state = g.O.ManagerAccess.state in let fault = c.in_err-end.field-0.0 in
     let from : c.from_residual.result ≡ Err (Row fault) = search rules in
-    subst (λ r. IsTakenUp (state c.args.office.now) c.args.round c.args.pid c.args.rows.now (map g.M.HandedOutput.made c.args.outputs.now) r (state c.tell_all-end.new.office)) (sym from)
-    (c.tell_all-end.result.0, subst (λ e. IsToldUpTo (state c.args.office.now) c.args.round c.args.pid c.args.rows.now c.tell_all-end.result.0 e (state c.tell_all-end.new.office)) c.in_err-end.was c.tell_all-end.ensures)
+    subst (λ r. IsTakenUp (state c.args.access.now) c.args.round c.args.pid c.args.rows.now (map g.M.HandedOutput.made c.args.outputs.now) r (state c.tell_all-end.new.access)) (sym from)
+    (c.tell_all-end.result.0, subst (λ e. IsToldUpTo (state c.args.access.now) c.args.round c.args.pid c.args.rows.now c.tell_all-end.result.0 e (state c.tell_all-end.new.access)) c.in_err-end.was c.tell_all-end.ensures)
 
 pub returns-in_err-hand_all : goal.returns-in_err-hand_all
 returns-in_err-hand_all g c =
     let state = g.O.ManagerAccess.state in let made = map g.M.HandedOutput.made c.args.outputs.now in let fault = c.in_err-hand_all.field-0.0 in
-    let mid = state c.tell_all-end.new.office in let new = state c.hand_all.new.office in
+    let mid = state c.tell_all-end.new.access in let new = state c.hand_all.new.access in
     let from : c.from_residual-in_err-hand_all.result ≡ Err (Output fault) = search rules in
-    subst (λ r. IsTakenUp (state c.args.office.now) c.args.round c.args.pid c.args.rows.now made r new) (sym from) (
+    subst (λ r. IsTakenUp (state c.args.access.now) c.args.round c.args.pid c.args.rows.now made r new) (sym from) (
       mid,
-      all_told (state c.args.office.now) mid c.args.round c.args.pid c.tell_all-end.result.0 c.args.rows.now c.tell_all-end.result.1 c.in_ok-end.was c.tell_all-end.ensures,
+      all_told (state c.args.access.now) mid c.args.round c.args.pid c.tell_all-end.result.0 c.args.rows.now c.tell_all-end.result.1 c.in_ok-end.was c.tell_all-end.ensures,
       subst (λ e. AreHandedUpTo mid c.args.round c.args.pid made e new) c.in_err-hand_all.was c.hand_all.ensures,
     )

@@ -14,14 +14,14 @@ overflow_add-self-2 c = let room : c.self.inside.version + 1 < 18446744073709551
 
 pub invariant_of-self-2 : goal.invariant_of-self-2
 invariant_of-self-2 c =
-    let begin = subst (λ s. BeginIncarnations c.who_begins-who.result s c.self.inside.starts c.cut_all.new.self) c.recovery-state.ensures.state c.in_ok-cut_all.ensures.ok in
+    let begin = subst (λ s. BeginIncarnations c.new_incarnations-who.result s c.self.inside.starts c.cut_all.new.self) c.recovery-state.ensures.state c.in_ok-cut_all.ensures.ok in
     let room : c.self.inside.round + 1 < 2 ^ 32 = subst (λ (m : ManagerState). m.round + 1 < 2 ^ 32) (sym c.self.view_is) c.requires in
     parts_finished _ _ _ _ _ _ _ _ _ _ _ _ _ c.self.invariant c.cut.ensures.state c.recovery-state.ensures.state c.cut.ensures.sound c.cut_all-2.ensures begin room
 
 pub returns-clause-finished : goal.returns-clause-finished
 returns-clause-finished c =
-    let begin = subst (λ s. BeginIncarnations c.who_begins-who.result s c.self.inside.starts c.cut_all.new.self) c.recovery-state.ensures.state c.in_ok-cut_all.ensures.ok in
-    let backs = subst (λ (s : List ℕ). (p : ℕ) → p < length s → is_named c.who_begins-who.result p ≡ begins (presence_of c.args.presences.now p) (slice_index s p)) c.recovery-state.ensures.state c.who_begins-who.ensures in
+    let begin = subst (λ s. BeginIncarnations c.new_incarnations-who.result s c.self.inside.starts c.cut_all.new.self) c.recovery-state.ensures.state c.in_ok-cut_all.ensures.ok in
+    let backs = subst (λ (s : List ℕ). (p : ℕ) → p < length s → is_named c.new_incarnations-who.result p ≡ begins (presence_of c.args.presences.now p) (slice_index s p)) c.recovery-state.ensures.state c.new_incarnations-who.ensures in
     subst (λ (m : ManagerState). Finishes c.args.presences.now m (record {
       rows = c.cut.new.self.rows;
       recovery = c.cut.new.self.state;
@@ -30,7 +30,7 @@ returns-clause-finished c =
       round = c.self.inside.round + 1;
       gathering = None;
       last = c.recovery-state.result;
-      backs = c.who_begins-who.result;
+      backs = c.new_incarnations-who.result;
       version = c.self.inside.version + 1;
     })) c.self.view_is
     (record {
@@ -48,7 +48,7 @@ returns-clause-finished c =
 
 pub returns-clause-sound : goal.returns-clause-sound
 returns-clause-sound c =
-    let begin = subst (λ s. BeginIncarnations c.who_begins-who.result s c.self.inside.starts c.cut_all.new.self) c.recovery-state.ensures.state c.in_ok-cut_all.ensures.ok in
+    let begin = subst (λ s. BeginIncarnations c.new_incarnations-who.result s c.self.inside.starts c.cut_all.new.self) c.recovery-state.ensures.state c.in_ok-cut_all.ensures.ok in
     let room : c.self.inside.round + 1 < 2 ^ 32 = subst (λ (m : ManagerState). m.round + 1 < 2 ^ 32) (sym c.self.view_is) c.requires in
     whole _ _ _ _ _ _ _ _ (parts_finished _ _ _ _ _ _ _ _ _ _ _ _ _ c.self.invariant c.cut.ensures.state c.recovery-state.ensures.state c.cut.ensures.sound c.cut_all-2.ensures begin room)
 

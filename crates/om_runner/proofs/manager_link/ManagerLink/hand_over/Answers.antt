@@ -20,7 +20,7 @@ hand_in-requires-clause-taken g c =
 pub returns-clause-over : goal.returns-clause-over
 returns-clause-over g c =
     let d = c.args.node.now in let end = c.note-end.new.self.core in let count = c.note-end.result.0 in
-    let before = c.args.locked.now.board.now.manager in let mid = c.note-end.new.office.board.now.manager in let after = c.hand_in.new.office.board.now.manager in
+    let before = c.args.locked.now.board.now.manager in let mid = c.note-end.new.access.board.now.manager in let after = c.hand_in.new.access.board.now.manager in
     subst (λ (p : ℕ). HasHandedOver before p d.core after end) c.requires.own
     (handed_over before mid after d.member.own c.note-end.new.self.member.own count d.core end (ap (λ (m : Member). m.own) c.note-end.ensures.member)
     (subst (λ e. IsToldUpTo before d.core.round d.member.own d.core.pending count e mid) c.in_ok-end.was c.note-end.ensures.told)

@@ -20,7 +20,7 @@ invariant_of-self-in_err-land g c =
 pub invariant_of-self-2 : goal.invariant_of-self-2
 invariant_of-self-2 g c =
     let same : c.landing.inside.ticket ≡ c.in-Away.stub = c.is_of.ensures c.if-not-is_of.false in
-    let flight = c.landing.inside.cargo.flight in
+    let flight = c.landing.inside.transaction.flight in
     let went : c.land.new.self ≡ landed flight c.self.inside.core.value = c.in_ok-land.ensures.landed ∙ ap (landed flight) c.deref_mut.ensures.value in
     held_here _ _ _ _ _
     (held_landed _ _ _ _ _ _ _ _ _ _ _ c.self.invariant c.in-Away.is c.landing.invariant same c.in_ok-told.was

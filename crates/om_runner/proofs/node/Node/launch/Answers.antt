@@ -9,8 +9,8 @@ use Rattle.om_runner.proofs.node.Node.launch.Goals as goal
 pub invariant_of-self-2 : goal.invariant_of-self-2
 invariant_of-self-2 g c =
     let issued = c.in-Some-issue.ensures in
-    let cargo = c.in_ok-cargo.cargo in
-    let core : c.self.inside.core.value ≡ c.args.self.now.core = ap (λ (d : NodeState). d.core) c.self.view_is ∙ c.in_ok-cargo.ensures.core in
-    let carries = subst (λ (d : CoreState). Carries c.args.k c.args.is_checkpoint_due d cargo.flight) (sym core) c.in_ok-cargo.ensures.carries in
+    let transaction = c.in_ok-transaction.transaction in
+    let core : c.self.inside.core.value ≡ c.args.self.now.core = ap (λ (d : NodeState). d.core) c.self.view_is ∙ c.in_ok-transaction.ensures.core in
+    let carries = subst (λ (d : CoreState). Carries c.args.k c.args.is_checkpoint_due d transaction.flight) (sym core) c.in_ok-transaction.ensures.carries in
     subst (IsHeld _ _ _ _) (sym c.replace.ensures.after)
-    (held_launched _ _ _ _ _ _ c.in-Here.store.value cargo _ _ _ _ (node_here _ _ _ _ _ c.in-Here.store c.self.invariant c.in-Here.is) issued.ticket issued.stub carries refl)
+    (held_launched _ _ _ _ _ _ c.in-Here.store.value transaction _ _ _ _ (node_here _ _ _ _ _ c.in-Here.store c.self.invariant c.in-Here.is) issued.ticket issued.stub carries refl)

@@ -4,8 +4,8 @@ use Rattle.om_process.specs.Flights.{Carries}
 use Rattle.om_runner.proofs.FlightLemmas.{flight_fits}
 use Rattle.om_runner.proofs.node.Node.pack.Goals as goal
 
-pub invariant_of-cargo : goal.invariant_of-cargo
-invariant_of-cargo g c =
+pub invariant_of-transaction : goal.invariant_of-transaction
+invariant_of-transaction g c =
     let core = c.self.inside.core.value in
     let same : c.interval.result ≡ core.now.interval = c.interval.ensures.interval ∙ ap (λ (d : CoreState). d.now.interval) c.deref.ensures in
     let last : AreLast core.now.interval core.log =

@@ -5,8 +5,8 @@ use Rattle.om_process.specs.Core.{CoreState}
 use Rattle.om_runner.specs.steps.Nodes.{Member}
 use Rattle.om_runner.proofs.worker.Worker.report.Goals as goal
 
-pub heed-requires : goal.heed-requires
-heed-requires g c =
+pub apply_limits-requires : goal.apply_limits-requires
+apply_limits-requires g c =
     let met = c.in_ok-standing.ensures in
     subst (λ (n : ℕ). IfSome c.in_ok-standing.limits (λ l. length l.bounds.got ≡ n)) (sym (ap (λ (m : Member). m.n) met.member ∙ c.requires.size)) met.limits
 

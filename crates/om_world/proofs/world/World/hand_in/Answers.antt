@@ -24,10 +24,10 @@ hand_in-requires-clause-taken g c = λ core up made has. tt
 pub invariant_of-self : goal.invariant_of-self
 invariant_of-self g c =
     let at = lent_at _ c.args.p _ (up_here g.S.Stable.content (health_of g.S.Stable.is_clean g.S.Stable.failed) g.S.Stable.IsSound _ _ _ _ _ _ c.args.p _ c.self.view_is c.requires) c.index-member.ensures in
-    after_hand g.S.Stable.content (health_of g.S.Stable.is_clean g.S.Stable.failed) g.S.Stable.IsSound _ _ _ _ _ _ c.args.p _ at _ c.self.invariant c.self.view_is c.at.result c.at.ensures c.hand_in.new.office c.hand_in.result c.requires c.hand_in.ensures.handed c.hand_in.ensures.not_up
+    after_hand g.S.Stable.content (health_of g.S.Stable.is_clean g.S.Stable.failed) g.S.Stable.IsSound _ _ _ _ _ _ c.args.p _ at _ c.self.invariant c.self.view_is c.at.result c.at.ensures c.hand_in.new.access c.hand_in.result c.requires c.hand_in.ensures.handed c.hand_in.ensures.not_up
 
 pub returns : goal.returns
 returns g c =
     let at = lent_at _ c.args.p _ (up_here g.S.Stable.content (health_of g.S.Stable.is_clean g.S.Stable.failed) g.S.Stable.IsSound _ _ _ _ _ _ c.args.p _ c.self.view_is c.requires) c.index-member.ensures in
-    let h = has_handed_in g.S.Stable.content (health_of g.S.Stable.is_clean g.S.Stable.failed) g.S.Stable.IsSound _ _ _ _ _ _ c.args.p _ at _ c.self.invariant c.self.view_is c.at.result c.at.ensures c.hand_in.new.office c.hand_in.result c.requires c.hand_in.ensures.handed c.hand_in.ensures.not_up in
+    let h = has_handed_in g.S.Stable.content (health_of g.S.Stable.is_clean g.S.Stable.failed) g.S.Stable.IsSound _ _ _ _ _ _ c.args.p _ at _ c.self.invariant c.self.view_is c.at.result c.at.ensures c.hand_in.new.access c.hand_in.result c.requires c.hand_in.ensures.handed c.hand_in.ensures.not_up in
     (h.0, h.1, c.told_handed.ensures ∙ ap (told_of refusal_of_output) h.2)

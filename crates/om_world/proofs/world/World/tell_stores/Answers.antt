@@ -71,7 +71,7 @@ returns-in_err-take_up-clause-faultless g c = λ never is.
 
 pub returns-in_err-take_up-clause-whole : goal.returns-in_err-take_up-clause-whole
 returns-in_err-take_up-clause-whole g c = λ known settled is.
-    let m = c.loop-p.manager in let next = c.take_up.new.office in let rows = c.in_ok-rows.rows.items in let p = c.loop-p.p in let new = c.rows_at.new.self in
+    let m = c.loop-p.manager in let next = c.take_up.new.access in let rows = c.in_ok-rows.rows.items in let p = c.loop-p.p in let new = c.rows_at.new.self in
     let outputs = c.released.result.now in let made = map made_of outputs in let programs = c.args.self.now.programs in
     let fault = c.in_err-take_up.field-0.0 in
     let from : c.from_residual-in_err-take_up.result ≡ Err (refusal_of_take_up fault) = search rules in
@@ -93,7 +93,7 @@ returns-in_err-take_up-clause-whole g c = λ known settled is.
 
 pub loop-p-preserved : goal.loop-p-preserved
 loop-p-preserved g c =
-    let m = c.loop-p.manager in let next = c.take_up.new.office in let rows = c.in_ok-rows.rows.items in let p = c.loop-p.p in let new = c.rows_at.new.self in
+    let m = c.loop-p.manager in let next = c.take_up.new.access in let rows = c.in_ok-rows.rows.items in let p = c.loop-p.p in let new = c.rows_at.new.self in
     let outputs = c.released.result.now in let made = map made_of outputs in
     let lt : p < length c.args.self.now.programs = subst (λ n. p < n) c.size-p-end.ensures.programs c.loop-p-test.true in
     let released : map held_of outputs ≡ released_by new.manager p =

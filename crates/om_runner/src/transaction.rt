@@ -10,7 +10,7 @@ use std::snapshot::Snapshot;
 
 // What is stored in one transaction: what a process handed over, and what is due in its store beside.
 #[derive(Drop)]
-pub(crate) struct Cargo {
+pub(crate) struct Transaction {
     pub(crate) flight: Flight,
     pub(crate) due: Option<Due>,
     ghost fits: { flight.first + length flight.receipts.items ≤ INTERVALS },
@@ -18,19 +18,19 @@ pub(crate) struct Cargo {
 
 // What a ticket is for: a store as it went, and what went with it.
 #[derive(Drop)]
-pub(crate) struct Went<S: Stable> {
+pub(crate) struct SentStore<S: Stable> {
     store: Snapshot<Box<S>>,
-    cargo: Snapshot<Cargo>,
+    transaction: Snapshot<Transaction>,
 }
 
-impl<S: Stable> Went<S> {
-    pub(crate) fn of(store: &Box<S>, cargo: &Cargo) -> Went<S>
+impl<S: Stable> SentStore<S> {
+    pub(crate) fn of(store: &Box<S>, transaction: &Transaction) -> SentStore<S>
         ensures store { result.store.value ≡ store.now }
-        ensures cargo { result.cargo.value ≡ cargo.now }
+        ensures transaction { result.transaction.value ≡ transaction.now }
     {
-        Went {
+        SentStore {
             store: Snapshot::of(store),
-            cargo: Snapshot::of(cargo),
+            transaction: Snapshot::of(transaction),
         }
     }
 }
