@@ -16,7 +16,7 @@ use Rattle.om_member.specs.Keeps.{Keeps}
 use Rattle.om_member.specs.Told.{AreTold, IsToldUpTo}
 use Rattle.om_member.proofs.KeepLemmas.{keeps_then}
 use Rattle.om_runner.specs.steps.Acts.{HasHandedOver}
-use Rattle.om_runner.specs.steps.Nodes.{AreAlwaysClean, Member, TakesFrom}
+use Rattle.om_node.specs.Nodes.{AreAlwaysClean, Member, TakesFrom}
 
 -- what holds, holds where the result is well
 pub on_any : {A E P : Type 0} (r : Result A E) → P → OnOk r P

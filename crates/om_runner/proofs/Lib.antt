@@ -1,4 +1,3 @@
-mod OnWay
 mod ReleasedLemmas
 mod HarvestLemmas
 mod LinkLemmas
@@ -7,7 +6,5 @@ mod WireLemmas
 mod SettleLemmas
 mod ActLemmas
 mod FaultLemmas
-mod FlightLemmas
 mod FollowLemmas
-mod HoldLemmas
 mod StoreLemmas

@@ -3,7 +3,7 @@ use Rattle.std.proofs.Common.{◌≡◌, ℕ, Bool, true, false, subst}
 use Rattle.std.specs.Prelude.{◌&&◌, ◌||◌}
 use Rattle.om_process.specs.Core.{CoreState}
 use Rattle.om_runner.specs.declared.worker.TheConstants.{ALL_RECEIPTS}
-use Rattle.om_runner.specs.steps.Storing.{HasStored}
+use Rattle.om_node.specs.Storing.{HasStored}
 use Rattle.om_runner.specs.steps.Turning.{HasStoredBy, is_multiple_of}
 
 -- where the log is due, something is

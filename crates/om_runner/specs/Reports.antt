@@ -2,6 +2,7 @@
 use Rattle.std.specs.Prelude.{◌≡◌, ℕ, ◌<◌, ◌≤◌, List, Option, None, Some, IfSome, Bool, IsTrue, Vec, slice_get, length, map}
 use Rattle.std.specs.declared.alloc.Global.{Global}
 pub use Rattle.om_stable.specs.Content.{nothing}
+pub use Rattle.om_node.specs.Ends.{IsWholeRun, outputs_made}
 use Rattle.om_manager.specs.declared.output_log.Output.{Output}
 use Rattle.om_board.specs.Boards.{BoardState, IsBoard}
 use Rattle.om_board.specs.Fronts.{front_of}
@@ -37,15 +38,6 @@ AreAlongOf images statuses = (p : ℕ) (program : Program) (status : Status) →
 -- by process: each of its outputs is the one of its number that its image makes along some receipts
 abbrev pub AreOutputsOf : List Image → List (Vec Output Global) → Type 0
 AreOutputsOf images released = AreAllMade (map program_of images) (length images) released
-
--- how many outputs a process of n has made
-abbrev pub outputs_made : ℕ → Process → ℕ
-outputs_made n s = queue_end (queue_at s.queues n)
-
--- for some receipts and turns, process `own` of n comes along the program to this status, and has then made so many outputs
-abbrev pub IsWholeRun : Program → ℕ → ℕ → Status → ℕ → Type 0
-IsWholeRun program own n status count = (h : List Received) × (s : Process) × Reaches program own n h s
-    × (status ≡ status_of (next_move own n s.machine (made s.queues))) × (count ≡ outputs_made n s)
 
 -- by process: it comes to its status so, and of the outputs that it has then made none is left out
 abbrev pub HaveAll : List Program → ℕ → List Status → List (Vec Output Global) → Type 0

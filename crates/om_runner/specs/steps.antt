@@ -1,17 +1,12 @@
 -- What only the crate's own parts rest on: no public clause cites these.
-pub mod Nodes
 pub mod Places
 pub mod Harvests
 pub mod Network
 pub mod Wiring
 pub mod Ends
 pub mod Settling
-pub mod Storing
 pub mod Acts
 pub mod Turning
 pub mod Refusals
 pub mod Sights
 pub mod Following
-pub mod Keeping
-pub mod Flying
-pub mod Holding

@@ -11,7 +11,7 @@ ghost use Rattle.om_runner.specs.declared.fault.RunFault.TheVariants.{Memory};
 ghost use Rattle.om_runner.specs.steps.Acts.{UnderLock};
 ghost use Rattle.om_runner.specs.steps.Ends.{IsGiven};
 ghost use Rattle.om_runner.specs.steps.Harvests.{AreOwn, harvested};
-ghost use Rattle.om_runner.specs.steps.Nodes.{AreAlwaysClean};
+ghost use Rattle.om_node.specs.Nodes.{AreAlwaysClean};
 ghost use Rattle.om_runner.specs.steps.Settling.{ArePasses, AreSettled};
 ghost use Rattle.om_runner.specs.steps.Wiring.{IsWired};
 

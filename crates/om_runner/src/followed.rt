@@ -11,7 +11,7 @@ ghost use Rattle.om_runner.specs.declared.follower.FollowFault.TheVariants.{Unwa
 ghost use Rattle.om_runner.specs.steps.Ends.{AreWholeOver, HaveAllOver};
 ghost use Rattle.om_runner.specs.steps.Following.{IsFollowed};
 ghost use Rattle.om_runner.specs.steps.Harvests.{AreOwn, harvested};
-ghost use Rattle.om_runner.specs.steps.Nodes.{AreAlwaysClean};
+ghost use Rattle.om_node.specs.Nodes.{AreAlwaysClean};
 ghost use Rattle.om_runner.specs.steps.Settling.{ArePasses};
 
 use crate::cluster::{run_workers, settled};

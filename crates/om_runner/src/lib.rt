@@ -12,9 +12,8 @@
 //!   them), `results` (what the workers bring back), `harvest` (the outputs among it)
 //! - `taking_up`: how a process is taken up from what an earlier run left
 //! - `turns` and `worker`: what a thread does, turn by turn; `worker_state` (where its process stands), `worker::rounds`, `worker::storing`, `worker::resting`; `barrier` (where it waits until all are up), `idle` and `spin_policy` (how it yields
-//!   and sleeps), `worker_fault` (why it stops)
-//! - what a worker has: `node` (a process over its store), `transaction` and `flying` (how what it stores gets there while it goes on), `links` (its ends of inboxes), `received` (what a resend may leave
-//!   out), `manager_link` and `locked_board` (the manager), `keeping` (what its store is given for a run that takes it up)
+//!   and sleeps), `worker_fault` (what the caller is told when it stops)
+//! - what a worker has: its node (om_node), `links` (its ends of inboxes), `received` (what a resend may leave out), `manager_link` and `locked_board` (the manager)
 //! - `ground`: what all threads have in common
 //! - `followed`, with `follower`, `following` and `followed_outputs`: outputs that are told as they are released
 #![tactic(auto)]
@@ -23,7 +22,6 @@ mod barrier;
 mod cluster;
 mod config;
 mod fault;
-mod flying;
 mod followed;
 mod followed_outputs;
 mod follower;
@@ -32,12 +30,10 @@ mod ground;
 mod harvest;
 mod idle;
 mod in_memory;
-mod keeping;
 mod links;
 mod locked_board;
 mod manager_link;
 mod network;
-mod node;
 mod opener;
 mod received;
 mod report;
@@ -46,7 +42,6 @@ mod settle;
 mod spin_policy;
 mod starting;
 mod taking_up;
-mod transaction;
 mod turns;
 mod watched;
 mod worker;

@@ -4,16 +4,15 @@ ghost use Rattle.std.specs.Prelude.{◌≡◌, ◌≢◌, ◌<◌, ◌↔◌, �
 ghost use Rattle.om_board.specs.Boards.{IsBoard};
 ghost use Rattle.om_member.specs.Handed.{outputs_from};
 ghost use Rattle.om_take_up.specs.TakenUp.{HasTakenUp};
-ghost use Rattle.om_runner.specs.steps.Nodes.{AreAlwaysClean};
+ghost use Rattle.om_node.specs.Nodes.{AreAlwaysClean};
 ghost use Rattle.om_runner.specs.steps.Acts.{AreAllOf, AreLimits, HasDeclared, HasHandedOver, HasHeard, HasJoined, HasMet, HasOffered, HasPruned, HasRefused, HasReleasedAnother, HasWaited, HasWithdrawn, IsStanding, UnderLock};
 
 use crate::harvest::Harvest;
 use crate::locked_board::LockedBoard;
-use crate::node::Node;
-use crate::worker_fault::WorkerFault;
 use om_board::{Board, Front, Naming, Pass, Shared};
 use om_interval::{Bounds, Pid, Starts, Verdict};
 use om_member::ManagerAccess;
+use om_node::{Node, WorkerFault};
 use om_observers::Diary;
 use om_process::{Made, PendingRow, ProcCore};
 use om_stable::Stable;
@@ -36,14 +35,6 @@ pub(crate) enum ManagerPhase {
     Gathers,
     // All processes are quiet.
     Quiet,
-}
-
-// What need not be kept any longer: by the process what is below the bounds, and by its store what stands before the
-// checkpoint.
-#[derive(Clone, Copy)]
-pub(crate) struct Limits {
-    pub(crate) bounds: Bounds,
-    pub(crate) checkpoint: u32,
 }
 
 // What the manager says of a finished round.

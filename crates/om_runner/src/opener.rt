@@ -1,6 +1,6 @@
 ghost use Rattle.std.specs.Prelude.{◌≡◌, IfOk, IsTrue};
 ghost use Rattle.om_runner.specs.Reports.{nothing};
-ghost use Rattle.om_runner.specs.Stores.{AreNeverClean};
+ghost use Rattle.om_node.specs.Stores.{AreNeverClean};
 
 use om_interval::Pid;
 use om_observers::Watch;

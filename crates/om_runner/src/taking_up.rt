@@ -6,21 +6,20 @@
 ghost use Rattle.std.specs.Prelude.{◌≡◌, ◌≤◌, IfErr, IfOk, length};
 ghost use Rattle.om_interval.specs.declared.pid.TheConstants.{MAX_PROCESSES};
 ghost use Rattle.om_process.specs.Images.{program_of};
-ghost use Rattle.om_runner.specs.Stores.{AreNeverClean};
+ghost use Rattle.om_node.specs.Stores.{AreNeverClean};
 ghost use Rattle.om_runner.specs.steps.Ends.{IsFaultBy};
-ghost use Rattle.om_runner.specs.steps.Nodes.{AreAlwaysClean};
+ghost use Rattle.om_node.specs.Nodes.{AreAlwaysClean};
 ghost use Rattle.om_runner.specs.steps.Refusals.{refusal_of_found, refusal_of_opening};
 
 use crate::fault::RunFault;
-use crate::flying::FlightChannel;
 use crate::ground::Cluster;
-use crate::node::DownNode;
 use crate::opener::{OpenFault, Opener};
 use crate::worker::Worker;
-use crate::worker_fault::load_fault;
+use crate::worker_fault::{load_fault, run_fault};
 use om_board::Naming;
 use om_interval::{MAX_PROCESSES, Pid};
 use om_look::about_of;
+use om_node::{DownNode, FlightChannel};
 use om_process::{Image, ProcCore};
 use om_restart::{FindFault, Found, find};
 use om_stable::{Ledger, LedgerTable, StoreError};
@@ -264,7 +263,7 @@ pub(crate) fn take_up<'a, K: Naming, J: Series, R: Wait + Clock, G, O: Opener<R>
     make_missing(alloc, &mut store, &found, image, pid, n)?;
     worker.arrive(0);
     if let Err(fault) = worker.take_up(cluster.rt, alloc, found) {
-        return Err(fault.of(pid));
+        return Err(run_fault(fault, pid));
     }
     match DownNode::over(alloc, image, pid, n, store, line) {
         Ok(down_node) => Ok((down_node, left)),

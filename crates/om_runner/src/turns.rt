@@ -4,16 +4,17 @@ ghost use Rattle.std.specs.Prelude.{◌≡◌, ◌<◌, ◌≤◌, All, false, I
 ghost use Rattle.om_runner.specs.Reports.{IsWholeRun};
 ghost use Rattle.om_process.specs.Core.{IsEnd};
 ghost use Rattle.om_runner.specs.steps.Ends.{IsEndOf, IsFaultBy, IsTurned};
-ghost use Rattle.om_runner.specs.steps.Nodes.{AreAlwaysClean};
+ghost use Rattle.om_node.specs.Nodes.{AreAlwaysClean};
 ghost use Rattle.om_runner.specs.steps.Places.{IsLanded, member_of};
 
 use crate::fault::RunFault;
 use crate::harvest::Harvest;
-use crate::node::Node;
 use crate::results::Finished;
 use crate::worker::Worker;
+use crate::worker_fault::run_fault;
 use crate::worker_state::WorkerState;
 use om_board::{Naming, Pass};
+use om_node::Node;
 use om_process::Status;
 use om_stable::{Ledger, Stable};
 use om_tickets::Series;
@@ -52,7 +53,7 @@ fn leave<'a, K: Naming, J: Series, S: Stable, R: Wait>(
         Ok(None) => return Ok(AfterTurn::On(WorkerState::Up(node), pass)),
         Err(worker_fault) => {
             drop(node);
-            return Err(worker_fault.of(worker.pid()));
+            return Err(run_fault(worker_fault, worker.pid()));
         }
     };
     worker.end(node.core().machine().count());
@@ -82,7 +83,7 @@ fn take_turn<'a, K: Naming, J: Series, S: Ledger, R: Wait + Clock>(
 {
     let (place, pass) = match worker.shown_turn(rt, alloc, place, pass) {
         Ok(turned) => turned,
-        Err(worker_fault) => return Err(worker_fault.of(worker.pid())),
+        Err(worker_fault) => return Err(run_fault(worker_fault, worker.pid())),
     };
     match place {
         WorkerState::AllQuiet(node) => leave(rt, alloc, worker, node, pass),

@@ -1,37 +1,23 @@
-//! Why a worker cannot go on.
+//! What a run's caller is told of a worker that cannot go on.
 
 ghost use Rattle.om_runner.specs.steps.Ends.{IsFaultBy};
 
 use crate::fault::RunFault;
 use om_interval::Pid;
-use om_manager::{FailError, JoinError, OutputError, RecordError};
-use om_process::{ReplayFault, StartFault};
-use om_recover::NoteError;
-use om_stable::StoreError;
-use om_take_up::TakeUpFault;
-use std::alloc::AllocError;
+use om_node::WorkerFault;
+use om_process::StartFault;
 
-// Why a worker cannot go on.
-#[derive(Clone, Copy)]
-pub(crate) enum WorkerFault {
-    Memory,
-    // A store, a replay or the manager refused a call.
-    Refused,
-}
-
-impl WorkerFault {
-    // As the run's caller is told of it.
-    pub(crate) fn of(self, pid: Pid) -> RunFault
-        ensures { IsFaultBy pid result }
-    {
-        match self {
-            WorkerFault::Memory => RunFault::Memory,
-            WorkerFault::Refused => RunFault::Fault(pid),
-        }
+// Returns the fault that the run's caller is told where the worker of a process cannot go on.
+pub(crate) fn run_fault(fault: WorkerFault, pid: Pid) -> RunFault
+    ensures { IsFaultBy pid result }
+{
+    match fault {
+        WorkerFault::Memory => RunFault::Memory,
+        WorkerFault::Refused => RunFault::Fault(pid),
     }
 }
 
-// As the run's caller is told why a process was not started.
+// Returns the fault that the run's caller is told where a process was not started.
 pub(crate) fn load_fault(fault: StartFault, pid: Pid) -> RunFault
     ensures { IsFaultBy pid result }
 {
@@ -39,74 +25,5 @@ pub(crate) fn load_fault(fault: StartFault, pid: Pid) -> RunFault
         StartFault::Memory => RunFault::Memory,
         StartFault::Fault => RunFault::Fault(pid),
         _ => RunFault::Load(pid),
-    }
-}
-
-impl From<AllocError> for WorkerFault {
-    fn from(_e: AllocError) -> WorkerFault {
-        WorkerFault::Memory
-    }
-}
-
-impl From<StoreError> for WorkerFault {
-    fn from(error: StoreError) -> WorkerFault {
-        match error {
-            StoreError::Memory => WorkerFault::Memory,
-            _ => WorkerFault::Refused,
-        }
-    }
-}
-
-impl From<ReplayFault> for WorkerFault {
-    fn from(fault: ReplayFault) -> WorkerFault {
-        match fault {
-            ReplayFault::Memory => WorkerFault::Memory,
-            _ => WorkerFault::Refused,
-        }
-    }
-}
-
-impl From<RecordError> for WorkerFault {
-    fn from(error: RecordError) -> WorkerFault {
-        match error {
-            RecordError::Refused(NoteError::Memory) => WorkerFault::Memory,
-            _ => WorkerFault::Refused,
-        }
-    }
-}
-
-impl From<OutputError> for WorkerFault {
-    fn from(error: OutputError) -> WorkerFault {
-        match error {
-            OutputError::Memory => WorkerFault::Memory,
-            _ => WorkerFault::Refused,
-        }
-    }
-}
-
-impl From<FailError> for WorkerFault {
-    fn from(error: FailError) -> WorkerFault {
-        match error {
-            FailError::Memory => WorkerFault::Memory,
-            _ => WorkerFault::Refused,
-        }
-    }
-}
-
-impl From<JoinError> for WorkerFault {
-    fn from(error: JoinError) -> WorkerFault {
-        match error {
-            JoinError::Memory => WorkerFault::Memory,
-            _ => WorkerFault::Refused,
-        }
-    }
-}
-
-impl From<TakeUpFault> for WorkerFault {
-    fn from(fault: TakeUpFault) -> WorkerFault {
-        match fault {
-            TakeUpFault::Row(error) => error.into(),
-            TakeUpFault::Output(error) => error.into(),
-        }
     }
 }

@@ -5,7 +5,7 @@ ghost use Rattle.om_runner.specs.steps.Places.{IsLanded};
 ghost use Rattle.om_runner.specs.steps.Sights.{doing_at, sight_at, sight_of};
 ghost use Rattle.om_runner.specs.steps.Turning.{IsLandedAt, place_after};
 
-use crate::node::{DownNode, Node};
+use om_node::{DownNode, Node};
 use om_observers::{Doing, Sight};
 use om_process::ProcCore;
 use om_stable::Stable;

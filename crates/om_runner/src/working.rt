@@ -4,16 +4,14 @@ ghost use Rattle.std.specs.Prelude.{◌≡◌, ◌<◌, ◌≤◌, ◌==◌, fil
 ghost use Rattle.om_process.specs.Images.{program_of};
 ghost use Rattle.om_process.specs.declared.image.Image.{Image};
 ghost use Rattle.om_runner.specs.declared.fault.RunFault.TheVariants.{Memory};
-ghost use Rattle.om_runner.specs.Stores.{AreNeverClean};
+ghost use Rattle.om_node.specs.Stores.{AreNeverClean};
 ghost use Rattle.om_runner.specs.steps.Ends.{IsEndOf, IsFaultBy, IsOwnEnd};
-ghost use Rattle.om_runner.specs.steps.Nodes.{AreAlwaysClean};
+ghost use Rattle.om_node.specs.Nodes.{AreAlwaysClean};
 
 use crate::barrier::Barrier;
 use crate::fault::RunFault;
-use crate::flying::FlightChannel;
 use crate::ground::{Cluster, stop_all};
 use crate::links::Links;
-use crate::node::Node;
 use crate::opener::{Gate, Opener};
 use crate::results::Finished;
 use crate::taking_up::{open_fault, take_up};
@@ -23,6 +21,7 @@ use crate::worker_fault::load_fault;
 use crate::worker_state::WorkerState;
 use om_board::{Naming, Pass};
 use om_interval::Pid;
+use om_node::{FlightChannel, Node};
 use om_process::Image;
 use om_stable::Stable;
 use om_tickets::Series;

@@ -16,7 +16,7 @@ use Rattle.om_board.specs.declared.waiting.Waiting.TheVariants.{Offers, Waits}
 use Rattle.om_member.specs.Handed.{AreHanded, outputs_from}
 use Rattle.om_member.specs.Keeps.{Keeps}
 use Rattle.om_member.specs.Told.{AreTold}
-use Rattle.om_runner.specs.declared.manager_link.Limits.{Limits}
+use Rattle.om_node.specs.declared.keeping.Limits.{Limits}
 use Rattle.om_runner.specs.declared.manager_link.RoundOutcome.{RoundOutcome}
 use Rattle.om_runner.specs.declared.manager_link.ManagerPhase.{ManagerPhase}
 use Rattle.om_runner.specs.declared.manager_link.ManagerPhase.TheVariants.{Gathers, Quiet}

@@ -17,7 +17,7 @@ use Rattle.om_runner.specs.declared.results.Finished.{Finished}
 use Rattle.om_runner.specs.declared.turns.AfterTurn.{AfterTurn}
 use Rattle.om_runner.specs.declared.turns.AfterTurn.TheVariants.{On, Over}
 use Rattle.om_runner.specs.steps.Network.{Lines}
-use Rattle.om_runner.specs.steps.Nodes.{Member}
+use Rattle.om_node.specs.Nodes.{Member}
 use Rattle.om_runner.specs.steps.Places.{IsLanded, member_of}
 use Rattle.om_runner.specs.steps.Wiring.{HasEnds}
 

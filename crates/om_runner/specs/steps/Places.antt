@@ -1,6 +1,6 @@
 -- Whose place it is.
 use Rattle.std.specs.Prelude.{◌≡◌, false}
-use Rattle.om_runner.specs.steps.Nodes.{Member}
+use Rattle.om_node.specs.Nodes.{Member}
 use Rattle.om_runner.specs.declared.worker_state.WorkerState.{WorkerState}
 use Rattle.om_runner.specs.declared.worker_state.WorkerState.TheVariants.{Up, MustJoin, Joined, Failed, Down, AllQuiet}
 

@@ -10,7 +10,7 @@ use Rattle.om_process.specs.Stores.{flushed}
 use Rattle.om_process.specs.declared.status.Status.{Status}
 use Rattle.om_process.specs.declared.status.Status.TheVariants as statuses
 use Rattle.om_member.specs.Handed.{outputs_from}
-use Rattle.om_runner.specs.declared.manager_link.Limits.{Limits}
+use Rattle.om_node.specs.declared.keeping.Limits.{Limits}
 use Rattle.om_runner.specs.declared.manager_link.RoundOutcome.{RoundOutcome}
 use Rattle.om_runner.specs.declared.manager_link.ManagerPhase.{ManagerPhase}
 use Rattle.om_runner.specs.declared.manager_link.ManagerPhase.TheVariants as standings
@@ -23,8 +23,8 @@ use Rattle.om_runner.specs.declared.idle.Pause.TheVariants.{Woken, Slept}
 use Rattle.om_runner.specs.declared.idle.TheConstants.{IDLE_TURNS}
 use Rattle.om_runner.specs.declared.worker.TheConstants.{ALL_RECEIPTS, ALL_TURNS}
 use Rattle.om_runner.specs.steps.Acts.{HasDeclared, HasHeard, HasHeeded, HasJoined, HasMet, HasWaited, HasWithdrawn, UnderLock}
-use Rattle.om_runner.specs.steps.Nodes.{Member, NodeState}
-use Rattle.om_runner.specs.steps.Storing.{HasStored}
+use Rattle.om_node.specs.Nodes.{Member, NodeState}
+use Rattle.om_node.specs.Storing.{HasStored}
 
 -- there was nothing to hand over, nor had the process ended; the manager had these many outputs of it
 pub record HasNothingToSay (handed : ℕ) (status : Status) (old : CoreState) (standing : ManagerPhase) (new : CoreState) : Type 0 where

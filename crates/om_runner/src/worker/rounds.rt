@@ -3,17 +3,16 @@
 ghost use Rattle.std.specs.Prelude.{◌≡◌, ◌<◌, ◌+◌, false, IfOk, IfSome, None, Ok, OnOk, Some, length, slice_get, true};
 ghost use Rattle.om_process.specs.Stores.{flushed};
 ghost use Rattle.om_runner.specs.steps.Acts.{HasHeeded, HasJoined, UnderLock};
-ghost use Rattle.om_runner.specs.steps.Nodes.{AreAlwaysClean};
+ghost use Rattle.om_node.specs.Nodes.{AreAlwaysClean};
 ghost use Rattle.om_runner.specs.steps.Places.{IsLanded, member_of};
 ghost use Rattle.om_runner.specs.steps.Turning.{HasComeBack, HasRisen, IsTurnOf, WasTold};
 
 use super::Worker;
 use crate::manager_link::RoundOutcome;
-use crate::node::{DownNode, Node};
-use crate::worker_fault::WorkerFault;
 use crate::worker_state::WorkerState;
 use om_board::{Naming, Pass};
 use om_interval::Verdict;
+use om_node::{DownNode, Node, WorkerFault};
 use om_stable::Stable;
 use om_tickets::Series;
 use std::alloc::Global;

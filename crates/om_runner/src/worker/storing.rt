@@ -3,17 +3,13 @@
 ghost use Rattle.std.specs.Prelude.{◌≡◌, ◌↔◌, ◌&&◌, ◌||◌, ◌++◌, ◌∷◌, [], Contains, IfNone, IfOk, IfSome, IsSome, IsTrue, None, Ok, OnErr, OnOk, false, is_some, length};
 ghost use Rattle.om_process.specs.Flights.{landed};
 ghost use Rattle.om_process.specs.Trims.{trimmed};
-ghost use Rattle.om_runner.specs.steps.Storing.{HasStored};
+ghost use Rattle.om_node.specs.Storing.{HasStored};
 ghost use Rattle.om_runner.specs.steps.Turning.{HasStoredBy, is_multiple_of};
 
 use super::{ALL_RECEIPTS, Worker};
-use crate::flying::Landing;
-use crate::keeping::{Deposit, Due};
-use crate::manager_link::Limits;
-use crate::node::Node;
-use crate::worker_fault::WorkerFault;
 use crate::worker_state::TurnOutcome;
 use om_board::Naming;
+use om_node::{Deposit, Due, Landing, Limits, Node, WorkerFault};
 use om_stable::{Ledger, Stable};
 use om_tickets::Series;
 use std::alloc::Global;

@@ -1,7 +1,7 @@
 use Rattle.std.proofs.Common.{◌≡◌, sym, ap, ◌∙◌, subst}
 use Rattle.std.specs.Prelude.{IfOk}
 use Rattle.om_runner.specs.steps.Ends.{IsTurned}
-use Rattle.om_runner.specs.steps.Nodes.{Member}
+use Rattle.om_node.specs.Nodes.{Member}
 use Rattle.om_runner.specs.steps.Places.{member_of}
 use Rattle.om_runner.proofs.turns.take_turn.Goals as goal
 

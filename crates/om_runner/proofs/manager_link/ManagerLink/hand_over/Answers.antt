@@ -2,7 +2,7 @@ use Rattle.std.proofs.Common.{ℕ, ap, arith, subst, sym}
 use Rattle.om_board.specs.Made.{IsMade}
 use Rattle.om_member.specs.Told.{IsToldUpTo}
 use Rattle.om_runner.specs.steps.Acts.{HasHandedOver}
-use Rattle.om_runner.specs.steps.Nodes.{Member, TakesFrom}
+use Rattle.om_node.specs.Nodes.{Member, TakesFrom}
 use Rattle.om_runner.proofs.ActLemmas.{handed_over, takes_named}
 use Rattle.om_runner.proofs.manager_link.ManagerLink.hand_over.Goals as goal
 

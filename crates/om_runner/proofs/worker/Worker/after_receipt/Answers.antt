@@ -1,6 +1,6 @@
 use Rattle.std.proofs.Common.{subst, is_some}
 use Rattle.std.specs.Prelude.{Option}
-use Rattle.om_runner.specs.declared.keeping.Kept.{Kept}
+use Rattle.om_node.specs.declared.keeping.Kept.{Kept}
 use Rattle.om_runner.specs.steps.Turning.{HasStoredBy}
 use Rattle.om_runner.proofs.worker.Worker.after_receipt.Goals as goal
 

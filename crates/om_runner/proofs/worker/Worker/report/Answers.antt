@@ -2,7 +2,7 @@ use Rattle.std.proofs.Common.{◌≡◌, ℕ, [], ap, ◌∙◌, false, inr, len
 use Rattle.std.specs.Prelude.{IfSome}
 use Rattle.om_member.specs.Handed.{outputs_from}
 use Rattle.om_process.specs.Core.{CoreState}
-use Rattle.om_runner.specs.steps.Nodes.{Member}
+use Rattle.om_node.specs.Nodes.{Member}
 use Rattle.om_runner.proofs.worker.Worker.report.Goals as goal
 
 pub apply_limits-requires : goal.apply_limits-requires

@@ -1,0 +1,3 @@
+mod OnWay
+mod FlightLemmas
+mod HoldLemmas

@@ -1,0 +1,8 @@
+use Rattle.std.proofs.Common.{refl}
+use Rattle.om_node.proofs.OnWay.{node_trimmed, node_through}
+use Rattle.om_node.proofs.node.Node.trim.Goals as goal
+
+pub invariant_of-self : goal.invariant_of-self
+invariant_of-self g c =
+    let h = c.self.invariant in
+    record { store = h.store; is = h.is; aloft = h.aloft; node = node_trimmed _ _ _ _ _ _ _ _ (node_through _ _ _ _ _ _ _ _ c.deref_mut.ensures.value refl h.node) c.trim.ensures }

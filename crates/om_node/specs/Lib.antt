@@ -1,0 +1,7 @@
+pub mod Ends
+pub mod Flying
+pub mod Holding
+pub mod Keeping
+pub mod Nodes
+pub mod Storing
+pub mod Stores
