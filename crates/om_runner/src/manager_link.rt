@@ -12,7 +12,7 @@ use crate::locked_board::LockedBoard;
 use om_board::{Board, Front, Naming, Pass, Shared};
 use om_interval::{Bounds, Pid, Starts, Verdict};
 use om_member::ManagerAccess;
-use om_node::{Node, WorkerFault};
+use om_node::{Limits, Node, WorkerFault};
 use om_observers::Diary;
 use om_process::{Made, PendingRow, ProcCore};
 use om_stable::Stable;
