@@ -1,0 +1,5 @@
+pub mod Fitting
+pub mod Going
+pub mod Placing
+pub mod Resting
+pub mod Rows
