@@ -8,7 +8,11 @@ mod group_session;
 #[cfg(test)]
 mod groups;
 #[cfg(test)]
+mod lasts;
+#[cfg(test)]
 mod records;
+#[cfg(test)]
+mod restarts;
 #[cfg(test)]
 mod sessions;
 #[cfg(test)]

@@ -2,7 +2,7 @@
 use Rattle.std.proofs.Common.{◌≡◌, ◌≢◌, ℕ, zero, suc, ◌<◌, inl, inr, List, [], ◌∷◌, ◌≤◌, length, get_or, set, Option, None, Some, Result, Ok, Err, refl, sym, ap, subst, ◌∙◌, arith}
 use Rattle.std.specs.Prelude.{IfOk, IfSome, OnOk, slice_get}
 use Rattle.std.specs.List.{AllZip}
-use Rattle.om_debug.specs.Stops.{DebugState, IsMoved, IsPassed, IsRunBack, IsStepBack, IsWithin, StandsFor, standing, with_timeline}
+use Rattle.om_debug.specs.Stops.{DebugState, IsLookedBack, IsMoved, IsPassed, IsRunBack, IsStepBack, IsWithin, StandsFor, standing, with_timeline}
 use Rattle.om_debug.specs.declared.stop.Stop.{Stop}
 use Rattle.om_debug.specs.declared.stop.Stop.TheVariants as stops
 use Rattle.om_timeline.specs.declared.fault.PlayFault.{PlayFault}
@@ -10,6 +10,7 @@ use Rattle.om_timeline.specs.declared.tape.Look.{Look}
 use Rattle.om_debug.proofs.Moved.{moved_then}
 use Rattle.om_debug.proofs.Quiet.{passed_then}
 use Rattle.om_inferiors.specs.declared.inferior.Inferior.{Inferior}
+use Rattle.om_inferiors.specs.steps.Lasting.{IsLookedBackAt}
 use Rattle.om_inferiors.specs.Moving.{AreBack, AreOn, IsBack, IsGoneOn, IsOn, IsRunBackAt, IsStepBackAt, StandsAt, with_debugger}
 
 zip_same : {A : Type 0} (R : A → A → Type 0) → ((x : A) → R x x) → (xs : List A) → AllZip R xs xs
@@ -141,6 +142,17 @@ ok_step_back xs i x d (Ok stop) less back = record {
   back = back;
 }
 ok_step_back xs i x d (Err fault) less back = tt
+
+pub ok_look_back : (xs : List Inferior) (i event : ℕ) (x : Inferior) (d : DebugState) (r : Result (Option Stop) PlayFault) → i < length xs → IfOk r (λ stop. IsLookedBack event (get_or xs i x).debugger d stop)
+    → IfOk r (λ stop. IsLookedBackAt xs (set xs i (with_debugger (get_or xs i x) d)) i event stop)
+ok_look_back xs i event x d (Ok stop) less back = record {
+  old = get_or xs i x;
+  new = with_debugger (get_or xs i x) d;
+  was = get_there xs i x less;
+  is = get_set xs i (with_debugger (get_or xs i x) d) less;
+  back = back;
+}
+ok_look_back xs i event x d (Err fault) less back = tt
 
 pub length_on : (xs ys : List Inferior) → AreOn xs ys → length ys ≡ length xs
 length_on [] [] each = refl

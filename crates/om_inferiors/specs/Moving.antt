@@ -58,10 +58,12 @@ pub record IsStepBackAt (olds news : List Inferior) (place : ℕ) (stop : Stop) 
 abbrev pub IsToldBack : List Inferior → List Inferior → ℕ → Stop → Type 0
 IsToldBack olds news place stop = IsRunBackAt olds news place stop ⊎ IsStepBackAt olds news place stop
 
--- the own last stop of a process that goes back, or by a step, is at this position or before it
+-- the own last stop of a process that goes back, or by a step, is at this position or before it: it would stand there, or nothing
+-- stops it from there on
 pub record StopsBy (old : Inferior) (event turns : ℕ) : Type 0 where
   pub there : DebugState
   pub stop : Stop
+  pub same : there ≡ standing old.debugger there.timeline.event there.timeline.turns
   pub back : IsRunBack old.debugger there stop ⊎ IsStepBack old.debugger there stop
   pub order : IsUpTo there.timeline.event there.timeline.turns event turns
 

@@ -4,7 +4,7 @@ ghost use Rattle.std.specs.Prelude.{◌≡◌, ◌≢◌, ◌⊎◌, ℕ, ◌<�
 ghost use Rattle.om_timeline.specs.Timeline.{IsUpTo};
 ghost use Rattle.om_inferiors.specs.declared.inferior.Inferior.{Inferior};
 ghost use Rattle.om_inferiors.specs.Moving.{AreBack, AreOn, IsLastOf, IsNoStepBack, IsRunBackAt, IsStepBackAt, StandsAt};
-ghost use Rattle.om_inferiors.specs.steps.Lasting.{IsBehindAt, IsLastUpTo, IsLaterOf};
+ghost use Rattle.om_inferiors.specs.steps.Lasting.{IsBehindAt, IsLastUpTo, IsLaterOf, IsLookedBackAt};
 
 use crate::inferior::Inferior;
 use om_debug::{Stop, Wish};
@@ -104,23 +104,24 @@ fn run_at(
     Ok(None)
 }
 
-// Takes all but one over an event to whom nothing comes in it.
+// Takes all but one over an event to whom nothing comes in it, or, where the one fails in it, who fail too.
 #[tactic(auto, using(crate::proofs::Each::are_on_same, crate::proofs::Each::are_on_then, crate::proofs::Each::length_on))]
-fn follow(all: &mut [Inferior], event: usize, first: usize) -> Result<(), PlayFault>
+fn follow(all: &mut [Inferior], event: usize, first: usize, fails: bool) -> Result<(), PlayFault>
     ensures on { OnOk result (AreOn all.old all.new) }
     ensures first { slice_get all.new first ≡ slice_get all.old first }
 {
     for place in 0..all.len() {
-        if place != first && is_passing(&all[place], event) {
+        if place != first && is_passing(&all[place], event, fails) {
             go_on_at(all, place, Resume::Continue)?;
         }
     }
     Ok(())
 }
 
-// Returns whether a process stands at an event in which nothing comes to it.
-fn is_passing(inferior: &Inferior, event: usize) -> bool {
-    inferior.debugger.position().event == event && inferior.debugger.is_still()
+// Returns whether a process stands at an event in which nothing comes to it, or, where another one fails in it, its failure: one event
+// may take down all, and then nothing else comes in it to anyone.
+fn is_passing(inferior: &Inferior, event: usize, fails: bool) -> bool {
+    inferior.debugger.position().event == event && (fails || inferior.debugger.is_still())
 }
 
 // Takes what comes next to anyone, or a part of it, and tells what stops there. The one at a place goes on as is wished, and all others
@@ -161,31 +162,36 @@ fn step_event(
     ensures stands { IfOk result (λ stopped. IfSome stopped (λ s. StandsAt all.new s.place s.stop)) }
 {
     let Some(place) = mover(all, event) else {
-        follow(all, event, all.len())?;
+        follow(all, event, all.len(), false)?;
         return Ok(None);
     };
     let how = if place == who { how } else { Resume::Continue };
     match run_at(all, place, event, how)? {
         Some(stop) => {
-            follow_moved(all, event, place)?;
+            follow_moved(all, event, place, stop == Stop::Failed)?;
             Ok(Some(Stopped { place, stop }))
         }
         None => {
-            follow_moved(all, event, place)?;
+            follow_moved(all, event, place, false)?;
             Ok(None)
         }
     }
 }
 
-// Takes all over an event, where one has gone over it.
+// Takes all over an event, where one has gone over it, or failed in it.
 #[tactic(auto, using(crate::proofs::Each::are_on_same, crate::proofs::Each::are_on_then, crate::proofs::Each::length_on))]
-fn follow_moved(all: &mut [Inferior], event: usize, first: usize) -> Result<(), PlayFault>
+fn follow_moved(
+    all: &mut [Inferior],
+    event: usize,
+    first: usize,
+    fails: bool,
+) -> Result<(), PlayFault>
     requires { first < length all.old }
     ensures on { OnOk result (AreOn all.old all.new) }
     ensures first { slice_get all.new first ≡ slice_get all.old first }
 {
     if all[first].debugger.position().event != event {
-        follow(all, event, first)?;
+        follow(all, event, first, fails)?;
     }
     Ok(())
 }
@@ -241,6 +247,22 @@ fn step_back_at(all: &mut [Inferior], place: usize) -> Result<Stop, PlayFault>
 {
     let inferior = &mut all[place];
     inferior.debugger.step_back()
+}
+
+fn look_back_at<R: Wish>(
+    all: &mut [Inferior],
+    place: usize,
+    event: usize,
+    reader: &mut R,
+) -> Result<Option<Stop>, PlayFault>
+    requires { place < length all.old }
+    ensures back { AreBack all.old all.new }
+    ensures told { IfOk result (IsLookedBackAt all.old all.new place event) }
+    ensures others { (k : ℕ) → k ≢ place → slice_get all.new k ≡ slice_get all.old k }
+    ensures unread { R.remaining reader.new ≡ R.remaining reader.old }
+{
+    let inferior = &mut all[place];
+    inferior.debugger.look_back(event, reader)
 }
 
 fn go_to_at(all: &mut [Inferior], place: usize, to: Position) -> Result<bool, PlayFault>
@@ -309,7 +331,7 @@ pub(crate) fn backward<R: Wish>(
     last_with(all, Stopped { place: who, stop }, reader)
 }
 
-// Takes all others back to their last stops, and then all to the latest of all, which is told.
+// Looks at all others for a later stop, and then takes all to the latest of all, which is told.
 #[tactic(auto, using(crate::proofs::Each::are_back_same, crate::proofs::Each::are_back_then, crate::proofs::Each::length_back))]
 fn last_with<R: Wish>(
     all: &mut [Inferior],
@@ -328,7 +350,7 @@ fn last_with<R: Wish>(
     Ok(last)
 }
 
-// Takes all others back to their last stops, and tells the latest of all.
+// Looks at all others for a later stop, and tells the latest of all.
 #[tactic(auto, using(crate::proofs::Each::are_back_same, crate::proofs::Each::are_back_then, crate::proofs::Each::length_back, crate::proofs::Lasting::last_first, crate::proofs::Lasting::untouched_first))]
 fn last_of<R: Wish>(
     all: &mut [Inferior],
@@ -350,7 +372,15 @@ fn last_of<R: Wish>(
     Ok(last)
 }
 
-// Takes the one at a place back to its last stop, and tells this stop where it is later than another one.
+// Returns the event before which the one at a place stands, or in which it does.
+fn event_at(all: &[Inferior], place: usize) -> usize
+    requires { place < length all.now }
+    ensures { (there : Inferior) → slice_get all.now place ≡ Some there → result ≡ there.debugger.timeline.event }
+{
+    all[place].debugger.position().event
+}
+
+// Looks for a stop of the one at a place that is later than another one, and tells the later of both.
 #[tactic(auto, using(crate::proofs::Each::length_back))]
 fn later_of<R: Wish>(
     all: &mut [Inferior],
@@ -360,12 +390,16 @@ fn later_of<R: Wish>(
 ) -> Result<Stopped, PlayFault>
     requires place { place < length all.old }
     requires last { last.place < length all.old }
+    requires apart { last.place ≢ place }
     ensures back { AreBack all.old all.new }
     ensures later { IfOk result (λ s. IsLaterOf all.old all.new last.place last.stop place s.place s.stop) }
     ensures others { (k : ℕ) → k ≢ place → slice_get all.new k ≡ slice_get all.old k }
     ensures unread { R.remaining reader.new ≡ R.remaining reader.old }
 {
-    let stop = run_back_at(all, place, reader)?;
+    let event = event_at(all, last.place);
+    let Some(stop) = look_back_at(all, place, event, reader)? else {
+        return Ok(last);
+    };
     let here = Stopped { place, stop };
     if is_later(all, here, last) {
         Ok(here)

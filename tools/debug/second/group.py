@@ -38,7 +38,7 @@ class Group(Stub):
         self.members = [Member(text, i + 1, name, program) for i, (name, program) in enumerate(procs)]
         super().__init__(self.members[0].h, '', log)
         self.shown, self.files = list(self.members), files
-        # Who makes which tick: each event changes one process.
+        # Who makes which tick: each event changes one process, but for a restart, in which all that are not down fail.
         self.line = sorted(((t.e, t.k, i) for i, m in enumerate(self.members) for t in m.h.ticks))
         self.place_now, self.selected, self.going, self.focus = 0, 1, None, 1
 
@@ -56,19 +56,39 @@ class Group(Stub):
         while self.place_now < len(self.line):
             m = self.members[self.line[self.place_now][2]]
             is_shown, t = m in self.shown, m.h.ticks[m.h.at]
+            if t.kind == 'fail':
+                fallen = self.fallen(t.e)
+                if fallen:
+                    return self.told(fallen[0], fallen[0].stop(SIGPWR))
+                continue
             said = is_shown and (m.broken(t) or m.watched(t))
             if said:
                 return self.told(m, said)
             m.h.go(False)
             self.place_now += 1
-            if is_shown and (t.kind == 'fail' or t.trap):
-                return self.told(m, m.stop(SIGPWR if t.kind == 'fail' else TRAPS[t.trap]))
+            if is_shown and t.trap:
+                return self.told(m, m.stop(TRAPS[t.trap]))
             if m is who and stepping and not (within and within[0] <= m.h.m.pc < within[1]):
                 return self.told(m, m.stop())
             count += 1
             if count % 1000 == 0 and self.interrupted():
                 return self.told(who, who.stop(SIGINT))
         return self.told(who, who.stop(extra='replaylog:end;'))
+
+    def fallen(self, e):
+        """Makes all failures of an event, and answers who of those that are shown failed."""
+        fallen = []
+        while self.place_now < len(self.line) and self.line[self.place_now][0] == e:
+            fallen.append(self.members[self.line[self.place_now][2]])
+            fallen[-1].h.go(False)
+            self.place_now += 1
+        return [m for m in fallen if m in self.shown]
+
+    def risen(self, e):
+        """Undoes what is left of the failures of an event."""
+        while self.place_now and self.line[self.place_now - 1][0] == e:
+            self.place_now -= 1
+            self.members[self.line[self.place_now][2]].h.go(True)
 
     def back(self, who, stepping):
         """Goes back to the last stop; the one who steps stops right before its own last tick, and where it has none nobody moves."""
@@ -84,6 +104,8 @@ class Group(Stub):
             self.place_now -= 1
             said = is_shown and m.broken(t)
             if said or m is who and stepping:
+                if t.kind == 'fail':
+                    self.risen(t.e)
                 return self.told(m, said or m.stop())
         return self.told(who, who.stop(extra='replaylog:begin;'))
 

@@ -54,6 +54,8 @@ class History:
                 self.run(e, place.core.copy(), event[2])
             old, state = place.core.m.copy(), place.state
             answer = world.play(event)
+            if answer.startswith('restarted') and state != 'down':
+                self.ticks.append(Tick(e, 0, 'fail', old, old))
             if not mine:
                 continue
             new = place.core.m

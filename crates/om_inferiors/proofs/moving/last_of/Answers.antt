@@ -1,9 +1,12 @@
 use Rattle.std.proofs.Common.{◌≡◌, ◌<◌, ◌∙◌, length, subst, arith}
 use Rattle.om_inferiors.specs.steps.Lasting.{IsLastUpTo}
 use Rattle.om_inferiors.proofs.Each.{are_back_then, length_back}
-use Rattle.om_inferiors.proofs.Lasting.{before_next, before_over, last_next, last_over, untouched_more, untouched_over, within_next}
+use Rattle.om_inferiors.proofs.Lasting.{before_next, before_over, elsewhere_by, last_next, last_over, untouched_more, untouched_over, within_next}
 use Rattle.om_inferiors.proofs.moving.last_of.Goals as goal
 use Rattle.om_inferiors.proofs.moving.last_of.Goals.{then-place-first+in_ok-last, else-place-first}
+
+pub later_of-requires-clause-apart : goal.later_of-requires-clause-apart
+later_of-requires-clause-apart g c = elsewhere_by c.args.first.place c.loop-place.place c.loop-place.last.place c.if-place-first.true c.loop-place.invariant.before
 
 pub loop-place-preserved : goal.loop-place-preserved
 loop-place-preserved g c =
@@ -20,7 +23,7 @@ loop-place-preserved g c =
           let less : upto < length c.loop-place.all = omega (arith, c.loop-place-test.true, length_back c.args.all.now c.loop-place.all so.back) in
           rw (w.all-is, w.last-is, w.reader-is) (record {
             back = are_back_then c.args.all.now c.loop-place.all news so.back w.later_of.ensures.back;
-            last = last_next c.args.all.now c.loop-place.all news first upto last.place its last.stop s.place s.stop so.last so.so w.if-place-first.true so.before one w.later_of.ensures.others;
+            last = last_next c.args.all.now c.loop-place.all news first upto last.place its last.stop s.place s.stop so.last so.so w.if-place-first.true so.before w.later_of.ensures.back one w.later_of.ensures.others;
             so = untouched_more c.args.all.now c.loop-place.all news upto so.so w.later_of.ensures.others;
             before = before_next c.loop-place.all news first upto last.place last.stop s.place s.stop so.before one;
             within = within_next c.loop-place.all news last.place upto last.stop s.place s.stop w.later_of.ensures.back so.within less one;
