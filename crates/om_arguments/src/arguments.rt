@@ -381,6 +381,11 @@ pub enum Request<'a> {
     Debug {
         process: Option<&'a str>,
     },
+    /// Of the process whose store the file is: at an interval, or else at the last.
+    DebugStore {
+        file: &'a str,
+        interval: Option<u32>,
+    },
     Look(Look<'a>),
     Image {
         ext: Ext,

@@ -6,7 +6,7 @@ ghost use Rattle.om_arguments.specs.steps.Requests.{asked_by};
 ghost use Rattle.om_arguments.specs.declared.arguments.Subcommand.{Subcommand};
 
 use crate::arguments::{INPUT, Request, STANDARD_STREAM};
-use crate::mistake::{Mistake, needed};
+use crate::mistake::{Mistake, needed, number_for};
 use clap::{Arg, ArgAction, ArgMatches, Command};
 use std::alloc::{AllocError, Global};
 
@@ -16,6 +16,12 @@ const PROCESS: &str = "process";
 
 const ELF: &str = "elf";
 
+const STORE: &str = "store";
+
+const STORE_WORDS: &str = "--store <FILE> [INTERVAL]";
+
+static STORE_VALUES: [&str; 2] = ["FILE", "INTERVAL"];
+
 /// What `--help` tells of `debug`.
 pub const DEBUG_HELP: &str = "\
 Shows processes of a record to gdb, at any moment of the run, forward and back.
@@ -23,6 +29,7 @@ gdb starts the command, and its packets come over standard input and output:
 
   target remote | omlog debug --process w1 record.txt
   target remote | omlog debug --elf queue=queue.elf record.txt
+  target remote | omlog debug --store q1.db 16
 
 RECORD is a script of sim, as run writes one with --record or --witness. It is
 played as sim plays it, and is only read; standard input has the packets, so -
@@ -35,6 +42,15 @@ time goes on for all of them. Say in gdb, before target remote:
   set architecture riscv:rv32
 With --elf PROGRAM=FILE, once for each program, gdb is told that FILE has the
 symbols of each process that runs PROGRAM. FILE itself is read by gdb alone.
+
+With --store FILE [INTERVAL] one process is shown without a record, from the
+checkpoints and receipts that its store FILE holds, as run --store leaves one.
+At first it stands right behind its receipt INTERVAL, where replay shows it, or
+behind the last one. Backwards it comes to the checkpoint that replay begins
+with, and forward as far as receipts are stored without a gap; behind the last
+one it goes on until it waits, ends or traps, by at most 20000000 instructions.
+Each receipt is two events: run P K, the instructions before it, and give P X,
+the message that began interval X. FILE is only read.
 
 In gdb:
   step, next, finish, continue, break, watch, rwatch, awatch, and backwards
@@ -54,6 +70,12 @@ Refused, on standard error, status 1, before the first packet:
   no such process   no process of the record has this name
   no such name      no process of the record runs a program of this name
   empty script      there is no process
+And with --store:
+  no checkpoint       none is stored at INTERVAL or below
+  damaged Y           the record of interval Y cannot be read
+  missing receipt Y   the receipt of interval Y is not stored, the least such
+  mismatch Y          the receipt of interval Y does not fit the process
+  store fault         FILE is not there, or is no store
 A faulty record is refused whole, as by sim. The status is 0 when gdb is done.
 
 Example: from the end of a run back to what wrote the variable found.
@@ -71,8 +93,32 @@ pub struct Symbols<'a> {
     pub file: &'a str,
 }
 
-// The request to show a process of a record.
+// The request to show a process of a record, or all, or the process of a store.
 pub(crate) fn debug_request<'a>(found: &ArgMatches<'a>) -> Result<Request<'a>, Mistake<'a>>
+    ensures { IfOk result (λ request. asked_by request ≡ Subcommand.Debug) }
+{
+    if let Some(words) = found.get_strs(STORE) {
+        return store_request(words);
+    }
+    record_request(found)
+}
+
+// The request to show the process of a store, at an interval that is a number, where one is given.
+fn store_request<'a>(words: &[&'a str]) -> Result<Request<'a>, Mistake<'a>>
+    ensures { IfOk result (λ request. asked_by request ≡ Subcommand.Debug) }
+{
+    let Some(file) = words.first() else {
+        return Err(Mistake::Absent(STORE_WORDS));
+    };
+    let interval = match words.get(1) {
+        Some(word) => Some(number_for(STORE_WORDS, word)?),
+        None => None,
+    };
+    Ok(Request::DebugStore { file, interval })
+}
+
+// The request to show a process of a record, or all.
+fn record_request<'a>(found: &ArgMatches<'a>) -> Result<Request<'a>, Mistake<'a>>
     ensures { IfOk result (λ request. asked_by request ≡ Subcommand.Debug) }
 {
     refuse_stream(needed(found, INPUT)?)?;
@@ -147,6 +193,7 @@ pub(crate) fn debug_command<'a>(alloc: Global) -> Result<Command<'a>, AllocError
         .after_long_help(DEBUG_HELP)
         .arg(process_option(alloc))?
         .arg(elf_option(alloc)?)?
+        .arg(store_option(alloc)?)?
         .arg(record)
 }
 
@@ -164,4 +211,15 @@ fn elf_option<'a>(alloc: Global) -> Result<Arg<'a>, AllocError> {
         .action(ArgAction::Append)
         .help("The file with the symbols of a program, for gdb to read; once for each")
         .conflicts_with(PROCESS)
+}
+
+fn store_option<'a>(alloc: Global) -> Result<Arg<'a>, AllocError> {
+    Arg::new(alloc, STORE)
+        .long(STORE)
+        .value_names(&STORE_VALUES)
+        .num_args(1..=2)
+        .help("A store whose process is shown, and the interval (default: the last)")
+        .conflicts_with(PROCESS)?
+        .conflicts_with(ELF)?
+        .conflicts_with(INPUT)
 }

@@ -7,7 +7,7 @@ use std::io;
 use std::process::{Abort, ExitCode};
 
 // Words that are mistaken, and all that is told of them.
-static MISTAKES: [(&[&str], &str); 27] = [
+static MISTAKES: [(&[&str], &str); 28] = [
     (
         &["omlog", "replay", "s0.db", "x"],
         "error: invalid value 'x' for '<INTERVAL>': it is no number of 32 bits\n\nUsage: omlog replay [OPTIONS] <FILE> <INTERVAL>\n\nFor more information, try '--help'.\n",
@@ -74,6 +74,10 @@ static MISTAKES: [(&[&str], &str); 27] = [
     (
         &["omlog", "debug", "--elf", "q=a", "--process", "p", "r"],
         "error: the argument '--elf <PROGRAM=FILE>' cannot be used with '--process <NAME>'\n\nUsage: omlog debug --elf <PROGRAM=FILE> <RECORD>\n\nFor more information, try '--help'.\n",
+    ),
+    (
+        &["omlog", "debug", "--store", "q1.db", "x"],
+        "error: invalid value 'x' for '--store <FILE> [INTERVAL]': it is no number of 32 bits\n\nUsage: omlog debug [OPTIONS] <RECORD>\n\nFor more information, try '--help'.\n",
     ),
     (
         &["omlog", "show"],

@@ -7,7 +7,7 @@ use om_isa::Ext;
 use std::alloc::Global;
 use std::process::Abort;
 
-static PLAIN: [(&[&str], Request<'static>, Option<&str>); 16] = [
+static PLAIN: [(&[&str], Request<'static>, Option<&str>); 18] = [
     (&["omlog", "decode"], Request::Decode(Ext::I), None),
     (
         &["omlog", "decode", "--m", "words"],
@@ -49,6 +49,22 @@ static PLAIN: [(&[&str], Request<'static>, Option<&str>); 16] = [
         &["omlog", "debug", "record"],
         Request::Debug { process: None },
         Some("record"),
+    ),
+    (
+        &["omlog", "debug", "--store", "q1.db"],
+        Request::DebugStore {
+            file: "q1.db",
+            interval: None,
+        },
+        None,
+    ),
+    (
+        &["omlog", "debug", "--store", "q1.db", "16"],
+        Request::DebugStore {
+            file: "q1.db",
+            interval: Some(16),
+        },
+        None,
     ),
     (
         &["omlog", "draw"],

@@ -1,2 +1,3 @@
 pub mod GivenLemmas
 mod LookLemmas
+mod ShownLemmas

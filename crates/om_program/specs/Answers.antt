@@ -24,6 +24,7 @@ use Rattle.om_look.specs.Show.{IsShown}
 use Rattle.om_look_commands.specs.Looks.{IsShownWithBodies}
 use Rattle.om_run_commands.specs.Modes.{IsFollowing}
 use Rattle.om_run_commands.specs.Run.{IsErrorOfRun}
+use Rattle.om_stored_debug.specs.Shown.{IsErrorOfShown as IsErrorOfShownStore}
 use Rattle.om_run_request.specs.Asked.{IsAnswered, IsErrorOfAsked, IsRefusedRun, form_of, mode_of}
 
 -- the text is this one, or it with its rows of zeros folded
@@ -58,6 +59,7 @@ IsAnswerTo _ bytes before after = ⊤
 abbrev pub IsWrittenAtOnce : Request → Type 0
 IsWrittenAtOnce (requests.Run running) = IsFollowing (mode_of running.checking) → ⊥
 IsWrittenAtOnce (requests.Debug process) = ⊥
+IsWrittenAtOnce (requests.DebugStore file interval) = ⊥
 IsWrittenAtOnce _ = Unit {0}
 
 -- what is written of the request is written as it is released
@@ -81,6 +83,10 @@ abbrev pub IsErrorOfShown : (CommandError → Type 0) → CommandError → Type 
 IsErrorOfShown IsErrorOfRecord errors.NoThread = Unit {0}
 IsErrorOfShown IsErrorOfRecord error = IsErrorOfRecord error
 
+-- the error refuses to show the process whose store a file holds, at an interval or else at the last
+abbrev pub IsErrorOfShownFile : Option ℕ → CommandError → Type 0
+IsErrorOfShownFile interval error = IsErrorOfShown (IsErrorOfFile (λ held. IsErrorOfShownStore held interval)) error
+
 -- the error refuses the request for these bytes
 abbrev pub IsErrorOfRequest : Request → List ℕ → CommandError → Type 0
 IsErrorOfRequest (requests.Decode ext) bytes error = IsErrorOf word_script_line [] (λ _. ⊥) bytes error
@@ -91,5 +97,6 @@ IsErrorOfRequest (requests.Run running) bytes error = IsErrorOfAsked running byt
 IsErrorOfRequest (requests.Explore exploring) bytes error = IsErrorOfRun bytes error
 IsErrorOfRequest (requests.Debug None) bytes error = IsErrorOfShown (IsErrorOfSim bytes) error
 IsErrorOfRequest (requests.Debug (Some process)) bytes error = IsErrorOfShown (IsErrorOfDebug bytes process.now) error
+IsErrorOfRequest (requests.DebugStore file interval) bytes error = IsErrorOfShownFile interval error
 IsErrorOfRequest (requests.Look look) bytes error = IsLookError look error
 IsErrorOfRequest (requests.Image ext name size) bytes error = ⊤

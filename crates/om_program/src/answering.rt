@@ -9,7 +9,7 @@ ghost use Rattle.om_program.specs.Refusals.{IsRefusal, WhereAnswered, WhereNoAns
 ghost use Rattle.om_program.specs.steps.Ends.{IsEnd, IsSilentRefusal};
 ghost use Rattle.om_program.specs.steps.Requests.{IsRunRequest, reads_text};
 
-use crate::debugging::debug_over;
+use crate::debugging::{debug_file, debug_over};
 use crate::exploring::explore_over;
 use crate::looking::look_into;
 use om_arguments::{Asked, Lines, Request};
@@ -71,7 +71,7 @@ fn reads_text(request: Request<'_>) -> bool
         | Request::Run(_)
         | Request::Explore(_)
         | Request::Debug { .. } => true,
-        Request::Look(_) | Request::Image { .. } => false,
+        Request::DebugStore { .. } | Request::Look(_) | Request::Image { .. } => false,
     }
 }
 
@@ -203,6 +203,9 @@ fn answer_to<R: Threads + Wait + Clock + Copy + Send + Sync + 'static, I: Read, 
         Request::Explore(exploring) => explore_over(
             rt, threads, exploring, reader, writer, reasons,
         ),
+        Request::DebugStore { file, interval } => {
+            debug_file(rt, threads, file, interval, writer, reasons)
+        }
         Request::Look(look) => look_into(rt, look, writer, reasons),
         // These have ends of their own.
         Request::Run(_) | Request::Debug { .. } | Request::Image { .. } => Ok(()),

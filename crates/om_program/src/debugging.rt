@@ -1,7 +1,8 @@
-//! Processes of a record under gdb, whose packets come over standard input.
+//! Processes of a record, or that of a store, under gdb, whose packets come over standard input.
 
 ghost use Rattle.std.specs.Prelude.{◌≡◌, IfErr, IfOk, IfSome};
 ghost use Rattle.om_arguments.specs.declared.arguments.Request.TheVariants.{Debug};
+ghost use Rattle.om_program.specs.Answers.{IsErrorOfShownFile};
 ghost use Rattle.om_program.specs.Refusals.{IsRefusal, names_given, names_of};
 ghost use Rattle.om_program.specs.steps.Ends.{IsRefusalOfAll, IsRefusalOfOne};
 
@@ -9,8 +10,10 @@ use om_arguments::Symbols as Given;
 use om_commands::CommandError;
 use om_debug::Wish;
 use om_debug_command::{DebugError, Symbols, debug, debug_all};
+use om_files::{bytes_of, fault_of};
 use om_inbox::{Inbox, Taker};
 use om_outcomes::Reasons;
+use om_stored_debug::debug_in;
 use std::alloc::{AllocError, Global};
 use std::io::{Read, Write};
 use std::rt::Runtime;
@@ -42,6 +45,52 @@ pub(crate) fn debug_over<R: Threads + Wait + Copy + Send + 'static, I: Read, W: 
         Some(name) => debug_one(rt.alloc(), name, input, &mut packets, writer),
         None => debug_given(rt.alloc(), given, input, &mut packets, writer),
     };
+    inbox.close(threads);
+    if let Some(refusal) = packets.refusal() {
+        reasons.add("standard input", refusal);
+    }
+    outcome
+}
+
+// Answers packets about the process whose store a file holds, which is read whole before. Packets come as to `debug_over`. Of a store
+// that failed the reason is added, where it is heard.
+pub(crate) fn debug_file<R: Threads + Wait + Copy + Send + 'static, W: Write>(
+    rt: &HostRuntime,
+    threads: &R,
+    file: &str,
+    interval: Option<u32>,
+    writer: &mut W,
+    reasons: &mut Reasons,
+) -> Result<(), CommandError>
+    ensures { IfErr result (IsErrorOfShownFile interval) }
+{
+    let outcome = debug_bytes(rt, threads, file, interval, writer, reasons);
+    if outcome == Err(CommandError::StoreFault) && reasons.are_heard {
+        reasons.add(file, fault_of(rt, file));
+    }
+    outcome
+}
+
+// The same of the bytes that the file and its log hold.
+fn debug_bytes<R: Threads + Wait + Copy + Send + 'static, W: Write>(
+    rt: &HostRuntime,
+    threads: &R,
+    file: &str,
+    interval: Option<u32>,
+    writer: &mut W,
+    reasons: &mut Reasons,
+) -> Result<(), CommandError>
+    ensures { IfErr result (IsErrorOfShownFile interval) }
+{
+    let bytes = bytes_of(rt, file)?;
+    let Ok(inbox) = Arc::new(rt.alloc(), Inbox::new(rt.alloc())) else {
+        return Err(CommandError::NoMemory);
+    };
+    if !begin_reading(rt, threads, &inbox)? {
+        return Err(CommandError::NoThread);
+    }
+    let mut packets = Taker::new(threads, &inbox);
+    let outcome = debug_in(rt.alloc(), &bytes, interval, &mut packets, writer);
     inbox.close(threads);
     if let Some(refusal) = packets.refusal() {
         reasons.add("standard input", refusal);

@@ -50,5 +50,6 @@ asked_by (requests.Draw lines) = Draw
 asked_by (requests.Run running) = Run
 asked_by (requests.Explore exploring) = Explore
 asked_by (requests.Debug process) = Debug
+asked_by (requests.DebugStore file interval) = Debug
 asked_by (requests.Look look) = looked_by look
 asked_by (requests.Image ext name size) = Image

@@ -10,6 +10,7 @@ IsRunRequest _ = ⊥
 
 -- its input is a text, of which a line may be refused
 abbrev pub reads_text : Request → Bool
+reads_text (requests.DebugStore file interval) = false
 reads_text (requests.Look look) = false
 reads_text (requests.Image ext name size) = false
 reads_text _ = true
