@@ -74,6 +74,15 @@ pub refused_if : {A : Type 0} (r : Result A CommandError) (IsFit : Type 0) (IsEr
 refused_if (Ok x) IsFit IsErrorOf so = tt
 refused_if (Err e) IsFit IsErrorOf so = inr so
 
+-- a connection that no longer answers refuses, whatever was told over it
+pub refused_known : {X : Type 0} (r : Result X CommandError) (told : Result (Unit {0}) CommandError) (e : CommandError) (IsFit IsSure : Type 0) (IsErrorOf : CommandError → Type 0)
+    → r ≡ Err e → told ≡ Ok tt → IsNoMatterOfContent e ⊎ ((told ≡ Err e) × IsSure) → IfErr r (λ x. IsNoMatterOfContent x ⊎ (IsFit → IsErrorOf x))
+refused_known {X} r told e IsFit IsSure IsErrorOf is done (inl known) =
+    let P : Result X CommandError → Type 0 = λ s. IfErr s (λ x. IsNoMatterOfContent x ⊎ (IsFit → IsErrorOf x)) in subst P (sym is) (inl known)
+refused_known r told e IsFit IsSure IsErrorOf is done (inr both) =
+    let fails : told ≡ Err e = both.0 in
+    let none : ⊥ = cc in absurd none
+
 -- ---- what is served of what is shown
 pub served_in : {A : Type 0} (r : Result A CommandError) (file log : List ℕ) (interval : Option ℕ) (d : DebugState) (had left before after : Option (List ℕ))
     → IsSoIn file log (λ held. IsShown held interval d) → OnOk r (IsServed (One d) had left before after)

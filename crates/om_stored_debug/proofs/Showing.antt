@@ -1,7 +1,5 @@
 -- What is shown and served of a store, and why it is not.
-use Rattle.std.proofs.Common.{◌≡◌, ◌⊎◌, ℕ, List, [], ◌++◌, Option, None, Some, Result, Ok, Err, Bool, false, IfErr, IfOk, OnOk}
-use Rattle.std.specs.Prelude.{codes, decimal}
-use Rattle.std.proofs.lemmas.Result.{IfErr-at_err, IfErr-weaker}
+use Rattle.std.proofs.Common.{◌≡◌, ℕ, List, Option, None, Some, Result, Ok, Err, Bool, false, OnOk}
 use Rattle.std.specs.Io.KnownBytes.{Appends, Consumes, IsAtEnd}
 use Rattle.om_commands.specs.declared.error.CommandError.{CommandError}
 use Rattle.om_commands.specs.declared.error.CommandError.TheVariants as errors
@@ -54,12 +52,6 @@ serving_before kept errors.CannotRead why = tt
 serving_before kept errors.CannotWrite why = tt
 serving_before kept errors.NoMemory why = tt
 serving_before kept error why = absurd why
-
-pub kept_before : (kept : Type 0) (error : CommandError) → kept → IsBefore error kept
-kept_before kept errors.CannotRead same = tt
-kept_before kept errors.CannotWrite same = tt
-kept_before kept errors.NoMemory same = tt
-kept_before kept error same = same
 
 pub served_of : (d : DebugState) (had left before after : Option (List ℕ))
     → ((bytes : List ℕ) × (written : List ℕ) × (over : Bool) × (last : SessionState) × Takes (session (One d)) bytes written over last

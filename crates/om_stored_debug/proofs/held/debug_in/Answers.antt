@@ -1,8 +1,5 @@
-use Rattle.std.proofs.Common.{◌≡◌, Err, rules, sym, subst, IfErr, Result}
+use Rattle.std.proofs.Common.{◌≡◌, Err, rules}
 use Rattle.std.proofs.lemmas.Result.{IfErr-weaker}
-use Rattle.om_commands.specs.declared.error.CommandError.{CommandError}
-use Rattle.om_look_commands.specs.Looks.{IsErrorIn}
-use Rattle.om_stored_debug.specs.Shown.{IsErrorOfShown}
 use Rattle.om_stored_debug.proofs.Holding.{refused_in, served_in, serving_in}
 use Rattle.om_stored_debug.proofs.Showing.{serving_before}
 use Rattle.om_stored_debug.proofs.held.debug_in.Goals as goal
