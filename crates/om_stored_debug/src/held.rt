@@ -81,8 +81,10 @@ fn open_of_two(
         ⊎ (IsFormed (file_state conn) → IsErrorOfStore (content_in (file_state conn).now) interval error)) }
 {
     let (shown, conn) = open_over(alloc, conn, interval);
-    known(Ok(()), conn)?;
-    shown
+    match known(Ok(()), conn) {
+        Ok(()) => shown,
+        Err(error) => Err(error),
+    }
 }
 
 // Shows the process whose store a database holds. The connection is handed back. Without the tables of a store nothing is read:

@@ -21,5 +21,5 @@ returns-in_err-stored-clause-error g c = λ known.
 
 pub returns-in_err-shown-clause-error : goal.returns-in_err-shown-clause-error
 returns-in_err-shown-clause-error g c = λ known.
-    let same : c.from_residual-2.result ≡ Err NoMemory = search rules in
+    let same : c.from_residual-in_err-shown.result ≡ Err NoMemory = search rules in
     rw same (no_memory (g.S.Stable.content c.args.store.now) c.args.interval)
