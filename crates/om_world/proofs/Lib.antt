@@ -54,3 +54,6 @@ pub mod Seats
 pub mod Acting
 pub mod Rising
 pub mod Seating
+pub mod Remembering
+pub mod StoppingLemmas
+pub mod TakingUp

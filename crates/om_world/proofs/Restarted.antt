@@ -11,6 +11,7 @@ use Rattle.om_recover.specs.Recoverable.{IsGreatest}
 use Rattle.om_stable.specs.Content.{Content}
 use Rattle.om_member.specs.declared.member.Member.{Member}
 use Rattle.om_manager.specs.Gatherings.{AreAllIn, presences_of}
+use Rattle.om_manager.specs.Outputs.{within}
 use Rattle.om_manager.specs.Sound.{IsManager, KeepsReleased}
 use Rattle.om_manager.specs.State.{ManagerState, held_by, process_count, released_by}
 use Rattle.om_take_up.specs.Anew.{EachFailed, IsBefore, IsFirst, OnlyFailed}
@@ -36,17 +37,18 @@ use Rattle.om_world.proofs.Keeping.{keeps_same}
 use Rattle.om_member.proofs.KeepLemmas.{prefix_same}
 use Rattle.om_world.proofs.Lists.{length-map}
 use Rattle.om_world.proofs.Reading.{held_same, same_but}
-use Rattle.om_world.proofs.Restarting.{Starts, released_same, shape_down, sound_started}
+use Rattle.om_world.proofs.Gathering.{within_at}
+use Rattle.om_world.proofs.Restarting.{Starts, released_same, shape_down, sound_started, within_all}
 use Rattle.om_world.proofs.RowsTold.{all_stores, same_rows}
 use Rattle.om_world.proofs.Seats.{world_is}
 
 -- ---- the manager before the last failure
-starts : (w : WorldState) (m : ManagerState) → IsKnown w → (a : IsAnew w m) → Starts w a.failed.before
-starts w m known a = record {
+starts : (w : WorldState) (m : ManagerState) → IsKnown w → IsSettled w → (a : IsAnew w m) → Starts w a.failed.before
+starts w m known settled a = record {
   size = ap process_count a.failed.others ∙ a.first.size;
   sound = a.failed.sound;
   rows = subst (λ (k : ManagerState). HasRowsOf (length w.programs) (held_in w) k.rows) (sym a.failed.others) (a.rows known);
-  kept = subst (λ (k : ManagerState). IsBelow w.manager.recovery k.recovery) (sym a.failed.others) a.kept;
+  kept = subst (λ (k : ManagerState). IsBelow w.manager.recovery k.recovery) (sym a.failed.others) (a.kept known settled);
   outputs = λ p lt. ap (λ (k : ManagerState). held_by k p) a.failed.others ∙ a.outputs p lt;
   round = ap (λ (k : ManagerState). k.round) a.failed.others ∙ a.first.round;
   waiting = subst (λ n. OnlyFailed n (presences_of a.failed.before.gathering)) a.first.size a.failed.waiting;
@@ -60,7 +62,7 @@ size_anew w m a = ap length (recovery_is w m a) ∙ a.first.size
 
 sound_anew : (w : WorldState) (m : ManagerState) → HasShape w → Sound w → IsSettled w → IsKnown w → IsAnew w m → Sound (anew w m)
 sound_anew w m h s settled known a =
-    let k = starts w m known a in
+    let k = starts w m known settled a in
     let before = a.failed.before in
     let same = ap process_count a.failed.others in
     subst (λ r. Sound (record (anew w m) { live = cut_list (slice_index r) w.live })) (sym a.failed.finished.recovery)
@@ -114,16 +116,16 @@ module _ {S : Type 0} (content : S → Content) (health : S → Health) (IsSound
   was_anew = as_now ∙ ap (λ (x : WorldState). anew x m) e
 
 -- ---- what was released is
+pub released_is : (w : WorldState) (m : ManagerState) → IsAnew w m → (p : ℕ) → p < length w.programs → released_by m p ≡ released_by w.manager p
+released_is w m a p lt =
+    let size : p < process_count a.failed.before = let same = ap process_count a.failed.others in let many = a.first.size in omega arith in
+    let held : held_by m p ≡ released_by a.told p = a.failed.finished.outputs p size ∙ ap (λ (k : ManagerState). released_by k p) a.failed.others in
+    let again : within (released_by a.told p) (slice_index a.told.recovery p) ≡ released_by a.told p =
+    within_all (released_by a.told p) (slice_index a.told.recovery p) (λ i o at. within_at (held_by a.told p) (slice_index a.told.recovery p) i o at) in
+    ap (λ l. within l (slice_index m.recovery p)) held ∙ ap (λ r. within (released_by a.told p) (slice_index r p)) (recovery_is w m a) ∙ again ∙ a.released p lt
+
 released_anew : (w : WorldState) (m : ManagerState) → IsAnew w m → KeepsReleased w.manager m
-released_anew w m a p lt =
-    let small : p < length w.programs = let size = a.first.size in let same = a.kept.same_places in omega arith in
-    let before = a.failed.before in
-    let kept : IsBelow w.manager.recovery before.recovery = subst (λ (k : ManagerState). IsBelow w.manager.recovery k.recovery) (sym a.failed.others) a.kept in
-    let held : held_by before p ≡ released_by w.manager p = ap (λ (k : ManagerState). held_by k p) a.failed.others ∙ a.outputs p small in
-    let size : p < process_count before = let same = ap process_count a.failed.others in let many = a.first.size in omega arith in
-    let now : held_by m p ≡ released_by w.manager p = a.failed.finished.outputs p size ∙ released_same w before p kept held in
-    let more : IsBelow w.manager.recovery m.recovery = subst (λ r. IsBelow w.manager.recovery r) (sym (recovery_is w m a)) a.kept in
-    (prefix_to w m p (released_same w m p more now))
+released_anew w m a p lt = prefix_to w m p (released_is w m a p (let many = a.many in omega arith))
   where
     prefix_to : (w : WorldState) (m : ManagerState) (p : ℕ) → released_by m p ≡ released_by w.manager p → IsPrefix (released_by w.manager p) (released_by m p)
     prefix_to w m p same = subst (λ l. IsPrefix (released_by w.manager p) l) (sym same) (prefix_same (released_by w.manager p))
@@ -134,7 +136,7 @@ keeps_anew old mid new m r a e =
     let was : mid.manager ≡ old.manager = ap (λ (x : WorldState). x.manager) r.others in
     let health : new.health ≡ mid.health = ap (λ (x : WorldState). x.health) e in
     record {
-      size = ap process_count manager ∙ ap length (recovery_is mid m a) ∙ sym a.kept.same_places ∙ ap process_count was;
+      size = ap process_count manager ∙ ap length (recovery_is mid m a) ∙ a.first.size ∙ sym a.many ∙ ap process_count was;
       released = subst (λ k. KeepsReleased old.manager k) (sym manager) (subst (λ k. KeepsReleased k m) was (released_anew mid m a));
       clean = λ all. r.was_clean (ap all_clean (sym health) ∙ all);
       counts = subst (λ l. NoneFell old.health l) (sym health) r.counts;
@@ -167,7 +169,7 @@ restart_happened old mid new m settled r a e known =
       first = b.first;
       rows = b.rows here;
       greatest = subst (λ n. IsGreatest n b.told.rows b.told.recovery) b.first.size b.sound.exact.greatest;
-      kept = b.kept;
+      kept = b.kept here settled;
       outputs = b.outputs;
       failed = subst (EachFailed b.told) (sym manager) b.failed;
       recovery = ap (λ (k : ManagerState). k.recovery) manager ∙ recovery_is (record old { health = mid.health }) m b;
@@ -193,9 +195,18 @@ told_before n first told fresh t = record {
   round = ap (λ (k : ManagerState). k.round) t.others ∙ fresh.round;
 }
 
-pub made_anew : (old mid : WorldState) (first told final : ManagerState) → IsNew (length old.programs) first → HasToldStores old first (length old.programs) mid told → IsBelow mid.manager.recovery told.recovery → EachFailed told final → IsManager final
-    → IsAnew mid final
-made_anew old mid first told final fresh s kept failed finished =
+-- what the stores' processes had released is held, and released where no less is recovered
+pub told_outputs : (old mid : WorldState) (first told : ManagerState) → HasToldStores old first (length old.programs) mid told → (p : ℕ) → p < length mid.programs → held_by told p ≡ released_by mid.manager p
+told_outputs old mid first told s p lt =
+    let many : length mid.programs ≡ length old.programs = ap (λ (x : WorldState). length x.programs) s.read.others in
+    s.held p (omega arith) ∙ ap (λ (x : WorldState). released_by x.manager p) (sym s.read.others)
+
+pub released_told : (old mid : WorldState) (first told : ManagerState) → HasToldStores old first (length old.programs) mid told → IsBelow mid.manager.recovery told.recovery → (p : ℕ) → p < length mid.programs → released_by told p ≡ released_by mid.manager p
+released_told old mid first told s kept p lt = released_same mid told p kept (told_outputs old mid first told s p lt)
+
+pub made_anew : (old mid : WorldState) (first told final : ManagerState) → IsNew (length old.programs) first → HasToldStores old first (length old.programs) mid told → process_count mid.manager ≡ length mid.programs
+    → (IsKnown mid → IsSettled mid → IsBelow mid.manager.recovery told.recovery) → ((p : ℕ) → p < length mid.programs → released_by told p ≡ released_by mid.manager p) → EachFailed told final → IsManager final → IsAnew mid final
+made_anew old mid first told final fresh s size kept released failed finished =
     let programs : mid.programs ≡ old.programs = ap (λ (x : WorldState). x.programs) s.read.others in
     let many : length mid.programs ≡ length old.programs = ap length programs in
     record {
@@ -206,8 +217,10 @@ made_anew old mid first told final fresh s kept failed finished =
           let here = same_rows (length old.programs) (held_in old) (held_in mid) told.rows (held_same old mid s.read known) all in
           subst (λ n. HasRowsOf n (held_in mid) told.rows) (sym many) here;
       sound = s.told.sound;
+      many = size;
       kept = kept;
-      outputs = λ p lt. s.held p (omega arith) ∙ ap (λ (x : WorldState). released_by x.manager p) (sym s.read.others);
+      outputs = told_outputs old mid first told s;
+      released = released;
       failed = failed;
       finished = finished;
     }

@@ -63,22 +63,22 @@ pub record Starts (w : WorldState) (m : ManagerState) : Type 0 where
   pub waiting : OnlyFailed (length w.programs) (presences_of m.gathering)
 
 -- ---- lists of one element
-none_up : (n p : ℕ) (place : ProcessState) → (ProcessState.Down true ≡ place → ⊥) → slice_get (replicate n (ProcessState.Down true)) p ≡ Some place → ⊥
+pub none_up : (n p : ℕ) (place : ProcessState) → (ProcessState.Down true ≡ place → ⊥) → slice_get (replicate n (ProcessState.Down true)) p ≡ Some place → ⊥
 none_up n p place apart at = apart (sym (same_at n p (ProcessState.Down true) place at))
 
-down_up : ProcessState.Down true ≡ ProcessState.Up → ⊥
+pub down_up : ProcessState.Down true ≡ ProcessState.Up → ⊥
 down_up e = cc
 
-down_in : ProcessState.Down true ≡ ProcessState.In → ⊥
+pub down_in : ProcessState.Down true ≡ ProcessState.In → ⊥
 down_in e = cc
 
-no_core : (n p : ℕ) (c : CoreState) → slice_get (replicate n None) p ≡ Some (Some c) → ⊥
+pub no_core : (n p : ℕ) (c : CoreState) → slice_get (replicate n None) p ≡ Some (Some c) → ⊥
 no_core n p c at = apart (same_at n p None (Some c) at)
   where
     apart : Some c ≡ None → ⊥
     apart e = cc
 
-at_place : {A : Type 0} (n p : ℕ) (x : A) → p < n → slice_get (replicate n x) p ≡ Some x
+pub at_place : {A : Type 0} (n p : ℕ) (x : A) → p < n → slice_get (replicate n x) p ≡ Some x
 at_place zero p x lt = absurd (omega arith)
 at_place (suc n) zero x lt = refl
 at_place (suc n) (suc p) x lt = at_place n p x (omega arith)
@@ -93,7 +93,7 @@ failed_away : (a : Presence) → a ≡ Failed → a ≡ Away → ⊥
 failed_away a e f = cc
 
 -- ---- what was released stays so
-within_all : (xs : List HeldOutput) (limit : ℕ) → ((i : ℕ) (o : HeldOutput) → slice_get xs i ≡ Some o → o.interval ≤ limit) → within xs limit ≡ xs
+pub within_all : (xs : List HeldOutput) (limit : ℕ) → ((i : ℕ) (o : HeldOutput) → slice_get xs i ≡ Some o → o.interval ≤ limit) → within xs limit ≡ xs
 within_all [] limit all = refl
 within_all (x ∷ xs) limit all =
     let le = all 0 x refl in

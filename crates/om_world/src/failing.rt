@@ -11,8 +11,8 @@ ghost use Rattle.om_world.specs.steps.Gathering.{HasDeclaredAt, IsFailure};
 ghost use Rattle.om_world.specs.steps.Moves.{Keeps, answered};
 
 use crate::event::{Answer, Refusal};
-use crate::live::Live;
 use crate::process_state::ProcessState;
+use crate::receipts::Receipts;
 use crate::world::World;
 use om_interval::Pid;
 use om_manager::{FailError, Gathered, Manager};
@@ -31,7 +31,7 @@ pub(crate) enum Failure {
 }
 
 // Cuts what was received to the recovery state, where the round is finished.
-pub(crate) fn cut_where_finished(live: &mut Live, manager: &Manager, told: Gathered)
+pub(crate) fn cut_where_finished(live: &mut Receipts, manager: &Manager, told: Gathered)
     ensures { live.new.entries ≡ live_after told manager.now live.old.entries }
 {
     if told == Gathered::Finished {

@@ -1,6 +1,6 @@
 //! The restart of a world: all that runs ends, and a new manager starts over the stores.
 
-ghost use Rattle.std.specs.Prelude.{◌≡◌, ◌≢◌, ◌<◌, [], length, map, Err, IfErr, IfOk, IsErrOf, OnOk, slice_get};
+ghost use Rattle.std.specs.Prelude.{◌≡◌, ◌≢◌, ◌<◌, [], length, map, Err, IfErr, IfOk, IsErrOf, OnOk, false, slice_get, true};
 ghost use Rattle.om_look.specs.Rows.{AreRowsOf};
 ghost use Rattle.om_look.specs.declared.rows.RowsFault.{RowsFault};
 ghost use Rattle.om_manager.specs.Sound.{IsManager};
@@ -11,6 +11,7 @@ ghost use Rattle.om_world.specs.Happened.{Happened};
 ghost use Rattle.om_world.specs.Played.{IsCounted, IsFaultless};
 ghost use Rattle.om_world.specs.Restarted.{anew};
 ghost use Rattle.om_world.specs.Started.{IsNew};
+ghost use Rattle.om_world.specs.Stopped.{AreCurrent};
 ghost use Rattle.om_world.specs.World.{IsKnown};
 ghost use Rattle.om_world.specs.declared.event.Event.{Event};
 ghost use Rattle.om_world.specs.declared.event.Refusal.{Refusal};
@@ -31,7 +32,7 @@ use om_take_up::{fail_all, take_up};
 use std::alloc::Global;
 
 // Takes each process down, declared, as before any round.
-fn put_down<S: Stable>(members: &mut Vec<Member<S>>)
+pub(crate) fn put_down<S: Stable>(members: &mut Vec<Member<S>>)
     ensures { members.new.items ≡ map downed members.old.items }
 {
     for p in 0..members.len() {
@@ -42,9 +43,21 @@ fn put_down<S: Stable>(members: &mut Vec<Member<S>>)
 }
 
 impl<S: Stable> World<S> {
+    /// Returns whether each process knows the last finished round: only then a world restarts, and what is left of it can be taken up.
+    pub fn is_settled(&self) -> bool
+        ensures settled { result ≡ true → AreCurrent self.now }
+        ensures unsettled { result ≡ false → (p : _) × (p < length self.now.programs) × HasNews self.now p }
+    {
+        match self.settled() {
+            Ok(()) => true,
+            Err(_) => false,
+        }
+    }
+
     // Refuses a world in which a process does not know the last finished round.
-    fn is_settled(&self) -> Result<(), Refusal>
+    fn settled(&self) -> Result<(), Refusal>
         ensures settled { OnOk result (IsSettled self.now) }
+        ensures current { OnOk result (AreCurrent self.now) }
         ensures unsettled { IfErr result (λ why. (why ≡ Refusal.Unsettled) × ((p : _) × (p < length self.now.programs) × HasNews self.now p)) }
     {
         for p in 0..self.size() {
@@ -127,7 +140,7 @@ impl<S: Stable> World<S> {
         ensures counted { IsCounted self.old self.new (answered result) }
         ensures faultless { ((store : S) → S.failed store ≡ 0) → IsFaultless (answered result) }
     {
-        self.is_settled()?;
+        self.settled()?;
         let manager = self.manager_anew(alloc)?;
         self.begin_anew(manager);
         Ok(Answer::Restarted)

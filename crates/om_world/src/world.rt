@@ -1,16 +1,17 @@
 //! The world.
 
-ghost use Rattle.std.specs.Prelude.{◌≡◌, ◌<◌, length, map, slice_get, IfOk, IfErr, IfNone, IfSome, IsTrue, Some, true};
+ghost use Rattle.std.specs.Prelude.{◌≡◌, ◌++◌, ◌∷◌, ◌<◌, List, [], length, map, slice_get, IfOk, IfErr, IfNone, IfSome, IsTrue, Some, true};
 ghost use Rattle.om_process.specs.Core.{CoreState, cluster_size};
 ghost use Rattle.om_world.specs.Changes.{IsUp};
 ghost use Rattle.om_world.specs.steps.NotRunning.{NotRunning};
 ghost use Rattle.om_world.specs.Holds.{Holds};
 ghost use Rattle.om_world.specs.World.{IsKnown, all_clean};
+ghost use Rattle.om_world.specs.declared.entry.Entry.{Entry};
 
 use crate::entry::Entry;
 use crate::event::Refusal;
-use crate::live::Live;
 use crate::process_state::ProcessState;
+use crate::receipts::Receipts;
 use om_format::Message;
 use om_interval::Pid;
 use om_manager::Manager;
@@ -24,7 +25,7 @@ use std::snapshot::Snapshot;
 #[derive(Drop)]
 pub struct World<S: Stable> {
     pub(crate) images: Vec<Image>,
-    pub(crate) live: Live,
+    pub(crate) live: Receipts,
     pub(crate) frames: Vec<Message>,
     // By process.
     pub(crate) members: Vec<Member<S>>,
@@ -56,11 +57,22 @@ impl<S: Stable> Model for World<S> {
 }
 
 impl<S: Stable> World<S> {
-    /// Returns what was received and not cut, in order.
-    pub fn live(&self) -> &[Entry]
-        ensures { result.now ≡ self.now.live }
+    /// Returns what was received since the world started or was taken up, and not cut, in order: the end of all that was received.
+    pub fn received(&self) -> &[Entry]
+        ensures { (before : List Entry) × (self.now.live ≡ before ++ result.now) }
     {
-        self.live.entries()
+        self.live.since()
+    }
+
+    /// Returns what was received last: none where that was before the world was taken up, and where nothing was received.
+    #[tactic(auto, using(crate::proofs::Remembering::last_behind))]
+    pub fn last_received(&self) -> Option<&Entry>
+        ensures { IfSome result (λ entry. (before : List Entry) × (self.now.live ≡ before ++ entry.now ∷ [])) }
+    {
+        match self.received().last() {
+            Some(entry) => Some(entry),
+            None => None,
+        }
     }
 
     /// The manager.

@@ -17,7 +17,7 @@ use Rattle.om_take_up.specs.declared.taking.TakeUpFault.TheVariants as take_ups
 use Rattle.om_world.specs.declared.event.Refusal.{Refusal}
 use Rattle.om_world.specs.declared.event.Refusal.TheVariants as why
 use Rattle.om_world.specs.Changes.{NoneFell}
-use Rattle.om_world.specs.Disk.{held_in}
+use Rattle.om_world.specs.Disk.{IsSettled, held_in}
 use Rattle.om_world.specs.StoreRows.{HasRowsOf, first_row}
 use Rattle.om_world.specs.World.{WorldState, IsKnown, all_clean}
 use Rattle.om_world.specs.steps.Moves.{refusal_of_record}
@@ -52,14 +52,16 @@ pub record HasToldStores (old : WorldState) (first : ManagerState) (count : ℕ)
   pub held : (p : ℕ) → p < count → held_by m p ≡ released_by old.manager p
   pub none : (p : ℕ) → count ≤ p → held_by m p ≡ []
 
--- a manager that a restart of the world puts in place of its own
+-- a manager that a restart of the world puts in place of its own: it releases what was released
 pub record IsAnew (w : WorldState) (m : ManagerState) : Type 0 where
   pub told : ManagerState
   pub first : IsFirst (length w.programs) told
   pub rows : IsKnown w → HasRowsOf (length w.programs) (held_in w) told.rows
   pub sound : IsManager told
-  pub kept : IsBelow w.manager.recovery told.recovery
+  pub many : process_count w.manager ≡ length w.programs
+  pub kept : IsKnown w → IsSettled w → IsBelow w.manager.recovery told.recovery
   pub outputs : (p : ℕ) → p < length w.programs → held_by told p ≡ released_by w.manager p
+  pub released : (p : ℕ) → p < length w.programs → released_by told p ≡ released_by w.manager p
   pub failed : EachFailed told m
   pub finished : IsManager m
 

@@ -1,10 +1,11 @@
 use Rattle.std.proofs.Common.{◌≡◌, ◌∙◌, ap, length, subst, sym, Err, rules}
 use Rattle.om_interval.specs.Vectors.{IsBelow}
+use Rattle.om_manager.specs.State.{process_count}
 use Rattle.om_world.specs.Started.{IsNew}
 use Rattle.om_world.specs.World.{WorldState}
 use Rattle.om_world.specs.steps.Members.{sound_in}
 use Rattle.om_world.proofs.Lists.{once_err}
-use Rattle.om_world.proofs.Restarted.{made_anew, told_before}
+use Rattle.om_world.proofs.Restarted.{made_anew, released_told, told_before}
 use Rattle.om_world.proofs.Undamaged.{none_lost, stands}
 use Rattle.om_world.proofs.world.World.manager_anew.Goals as goal
 
@@ -24,7 +25,8 @@ returns-clause-made g c =
     let mid = c.tell_stores.new.self in let told = c.tell_stores.new.manager in
     let below = subst (λ r. IsBelow c.recovery-2.result r) c.recovery-3.ensures.recovery (c.leq.ensures.0 c.if-not-leq.false) in
     let kept = subst (λ (w : WorldState). IsBelow w.manager.recovery told.recovery) c.self-2.view_is (subst (λ r. IsBelow r told.recovery) c.recovery-2.ensures.recovery below) in
-    made_anew c.args.self.now mid c.in_ok-manager.manager told c.fail_all.new.manager fresh c.in_ok-tell_stores.ensures.told kept c.in_ok-fail_all.ensures.failed c.in_ok-fail_all.ensures.sound
+    made_anew c.args.self.now mid c.in_ok-manager.manager told c.fail_all.new.manager fresh c.in_ok-tell_stores.ensures.told (subst (λ (w : WorldState). process_count w.manager ≡ length w.programs) c.self-2.view_is c.self-2.invariant.shape.size)
+    (λ known settled. kept) (released_told c.args.self.now mid c.in_ok-manager.manager told c.in_ok-tell_stores.ensures.told kept) c.in_ok-fail_all.ensures.failed c.in_ok-fail_all.ensures.sound
 
 pub returns-in_err-tell_stores-clause-counted : goal.returns-in_err-tell_stores-clause-counted
 returns-in_err-tell_stores-clause-counted g c = λ is.
