@@ -19,7 +19,7 @@ AreReleasedBy m released =
     (p : ℕ) (outputs : Vec Output Global) → slice_get released p ≡ Some outputs → (map held_of outputs.items ≡ released_by m p) × AreNumbered outputs.items
 
 -- what is left of a world, over its stores
-pub record IsStopped {S : Type 0} (IsSound : S → Type 0) (stores : List S) (released : List (Vec Output Global)) (w : WorldState) : Type 0 where
+pub record IsStopped {S : Type 0} (IsSound : S → Type 0) (stores : List S) (outputs : List (Vec Output Global)) (w : WorldState) : Type 0 where
   pub world : IsWorld IsSound stores w
-  pub many : length released ≡ length w.programs
-  pub released : AreReleasedBy w.manager released
+  pub many : length outputs ≡ length w.programs
+  pub released : AreReleasedBy w.manager outputs
