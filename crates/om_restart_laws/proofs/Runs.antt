@@ -24,7 +24,7 @@ played_holds old new (e ∷ events) (a ∷ answers) h p = played_holds p.0 new e
 
 -- ---- a world that is taken up
 taken_stands : (ended begun : WorldState) → WasTakenUp ended begun → StandsOver ended.programs ended.live ended.manager.recovery ended.contents (released_by ended.manager) begun.manager
-taken_stands ended begun t = stands_over ended.programs ended.live ended.manager.recovery ended.contents (released_by ended.manager) begun.manager (are_left ended t.disk) (starts_over (stopped ended) begun t.restarted)
+taken_stands ended begun t = stands_over ended.programs ended.live ended.manager.recovery ended.contents (released_by ended.manager) begun.manager (are_left (stopped ended) t.disk) (starts_over (stopped ended) begun t.restarted)
 
 taken_holds : (ended begun : WorldState) → WasTakenUp ended begun → Holds begun
 taken_holds ended begun t =

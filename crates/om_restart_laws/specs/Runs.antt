@@ -20,7 +20,7 @@ pub record WasPlayed (old new : WorldState) : Type 0 where
 
 -- a world ended and left this on its disk, and what it left was taken up by another, as `World::stop` and `World::take_up` say
 pub record WasTakenUp (ended begun : WorldState) : Type 0 where
-  pub disk : IsOnDisk ended
+  pub disk : IsOnDisk (stopped ended)
   pub restarted : HasRestarted (stopped ended) begun
 
 -- a world that ended, and the one that took up what it left

@@ -21,9 +21,9 @@ AreReleasedBy m released =
     (p : ℕ) (outputs : Vec Output Global) → slice_get released p ≡ Some outputs → (map held_of outputs.items ≡ released_by m p) × AreNumbered outputs.items
 
 -- what is left of a world, over its stores
-pub record IsStopped {S : Type 0} (IsSound : S → Type 0) (stores : List S) (released : List (Vec Output Global)) (current : Bool) (w : WorldState) : Type 0 where
+pub record IsStopped {S : Type 0} (IsSound : S → Type 0) (stores : List S) (outputs : List (Vec Output Global)) (settled : Bool) (w : WorldState) : Type 0 where
   pub world : IsWorld IsSound stores w
-  pub many : length released ≡ length w.programs
-  pub released : AreReleasedBy w.manager released
-  pub current : current ≡ true → AreCurrent w
-  pub news : current ≡ false → (p : ℕ) × (p < length w.programs) × HasNews w p
+  pub many : length outputs ≡ length w.programs
+  pub released : AreReleasedBy w.manager outputs
+  pub current : settled ≡ true → AreCurrent w
+  pub news : settled ≡ false → (p : ℕ) × (p < length w.programs) × HasNews w p
