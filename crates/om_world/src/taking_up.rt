@@ -87,6 +87,7 @@ impl<S: Stable> Stopped<S> {
         ensures fewer { result ≡ false → (p : _) × (p < n)
             × (length (released_by manager.now p) < length (released_by self.now.manager p)) }
     {
+        self.told();
         for p in 0..n {
             let pid = Pid::at(p);
             let released = manager.released(pid);

@@ -68,7 +68,6 @@ impl<S: Stable> World<S> {
     }
 
     /// Returns what was received last: none where that was before the world was taken up, and where nothing was received.
-    #[tactic(auto, using(crate::proofs::Remembering::last_behind))]
     pub fn last_received(&self) -> Option<&Entry>
         ensures { IfSome result (λ entry. (before : List Entry) × (self.now.live ≡ before ++ entry.now ∷ [])) }
     {

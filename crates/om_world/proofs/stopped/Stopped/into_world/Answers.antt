@@ -13,8 +13,8 @@ pub invariant_of-result : goal.invariant_of-result
 invariant_of-result g c =
     let s = g.S.Stable in let m = c.args.manager in let run = c.run_of-run.result.entries in
     let left = left_chosen _ c.args.self c.self.inside.current run c.self.view_is c.self.invariant.current c.self.invariant.news c.requires.whole c.run_of-run.ensures in
-    after_taken s.content (health_of s.is_clean s.failed) s.IsSound _ _ _ c.self.inside.members.items _ _ c.args.self c.self.invariant.world c.self.view_is run m c.before.result.entries
-    (λ long. c.before.ensures ∙ ap (λ r. fitting (slice_index r) (cut_list (slice_index r) run)) c.recovery.ensures.recovery ∙ fitting_same (recovered m) (cut_list (recovered m) run) long) c.at.result c.at.ensures
+    after_taken s.content (health_of s.is_clean s.failed) s.IsSound _ _ _ c.self.inside.members.items _ _ c.args.self c.self.invariant.world c.self.view_is run m c.before-2.result.entries
+    (λ long. c.before-2.ensures ∙ ap (λ r. fitting (slice_index r) (cut_list (slice_index r) run)) c.recovery.ensures.recovery ∙ fitting_same (recovered m) (cut_list (recovered m) run) long) c.at.result c.at.ensures
     c.new.result.items c.new.ensures.items c.put_down.new.members.items c.put_down.ensures left c.requires.anew
 
 pub returns : goal.returns
@@ -23,10 +23,10 @@ returns g c =
     let left = left_chosen _ c.args.self c.self.inside.current run c.self.view_is c.self.invariant.current c.self.invariant.news c.requires.whole c.run_of-run.ensures in (
       run,
       left,
-      was_taken s.content (health_of s.is_clean s.failed) s.IsSound _ _ _ c.self.inside.members.items _ _ c.args.self c.self.invariant.world c.self.view_is run m c.before.result.entries
-      (λ long. c.before.ensures ∙ ap (λ r. fitting (slice_index r) (cut_list (slice_index r) run)) c.recovery.ensures.recovery ∙ fitting_same (recovered m) (cut_list (recovered m) run) long) c.at.result c.at.ensures
+      was_taken s.content (health_of s.is_clean s.failed) s.IsSound _ _ _ c.self.inside.members.items _ _ c.args.self c.self.invariant.world c.self.view_is run m c.before-2.result.entries
+      (λ long. c.before-2.ensures ∙ ap (λ r. fitting (slice_index r) (cut_list (slice_index r) run)) c.recovery.ensures.recovery ∙ fitting_same (recovered m) (cut_list (recovered m) run) long) c.at.result c.at.ensures
       c.new.result.items c.new.ensures.items c.put_down.new.members.items c.put_down.ensures left c.requires.anew,
-      was_taken_whole s.content (health_of s.is_clean s.failed) s.IsSound _ _ _ c.self.inside.members.items _ _ c.args.self c.self.invariant.world c.self.view_is run m c.before.result.entries
-      (λ long. c.before.ensures ∙ ap (λ r. fitting (slice_index r) (cut_list (slice_index r) run)) c.recovery.ensures.recovery ∙ fitting_same (recovered m) (cut_list (recovered m) run) long) c.at.result c.at.ensures
+      was_taken_whole s.content (health_of s.is_clean s.failed) s.IsSound _ _ _ c.self.inside.members.items _ _ c.args.self c.self.invariant.world c.self.view_is run m c.before-2.result.entries
+      (λ long. c.before-2.ensures ∙ ap (λ r. fitting (slice_index r) (cut_list (slice_index r) run)) c.recovery.ensures.recovery ∙ fitting_same (recovered m) (cut_list (recovered m) run) long) c.at.result c.at.ensures
       c.new.result.items c.new.ensures.items c.put_down.new.members.items c.put_down.ensures left c.requires.anew,
     )

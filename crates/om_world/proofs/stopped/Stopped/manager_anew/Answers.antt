@@ -22,9 +22,8 @@ has_released-requires-clause-many g c =
 
 pub has_released-requires-clause-size : goal.has_released-requires-clause-size
 has_released-requires-clause-size g c =
-    let told = c.in_ok-tell_stores.ensures.told.told.size in
-    let first = ap length c.in_ok-manager.ensures.fresh.recovery in
-    let long = length-replicate c.size-n.result 0 in
+    let size : process_count c.tell_stores.new.manager ≡ c.size-n.result =
+    c.in_ok-tell_stores.ensures.told.told.size ∙ ap length c.in_ok-manager.ensures.fresh.recovery ∙ length-replicate c.size-n.result 0 in
     omega arith
 
 pub fail_all-requires : goal.fail_all-requires
