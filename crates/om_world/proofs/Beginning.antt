@@ -39,6 +39,7 @@ use Rattle.om_world.proofs.Gaining.{checkpoint_stored}
 use Rattle.om_world.proofs.Holding.{before_map}
 use Rattle.om_world.proofs.Legal.{each_legal}
 use Rattle.om_world.proofs.Lists.{inside, length-map, map_at, none_in, once, there}
+use Rattle.om_world.proofs.Between.{between_now}
 
 -- ---- lists
 index_at : {A : Type 0} (xs : List A) (i : ℕ) (x d : A) → slice_get xs i ≡ Some x → slice_index_or xs i d ≡ x
@@ -164,6 +165,7 @@ begun content health programs cores xs ys m = record {
   contents = map content ys;
   health = map health ys;
   origins = map content xs;
+  since = record { before = []; stored = false };
 }
 
 -- the core at a place
@@ -327,6 +329,9 @@ pub world_begun : {S : Type 0} (content : S → Content) (health : S → Health)
 world_begun content health IsSound programs cores xs ys m b = record {
   shape = shape_begun content health IsSound programs cores xs ys m b;
   clean = λ known. (stores_sound content health IsSound programs cores xs ys m b known.1, sound_begun content health IsSound programs cores xs ys m b known);
+  between = λ known free.
+      between_now (begun content health programs cores xs ys m) (shape_begun content health IsSound programs cores xs ys m b) (sound_begun content health IsSound programs cores xs ys m b known)
+      (λ p lt news. let first = b.fresh.round in omega arith);
 }
 
 -- ---- what a start says

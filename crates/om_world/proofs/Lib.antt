@@ -54,3 +54,8 @@ pub mod Seats
 pub mod Acting
 pub mod Rising
 pub mod Seating
+pub mod Remembering
+pub mod StoppingLemmas
+pub mod TakingUp
+pub mod Between
+pub mod Leaving

@@ -190,3 +190,73 @@ fn a_restart_in_a_drawn_script_loses_nothing(rt: HostRuntime) {
     }
     assert!(&rt; 0 < unsettled);
 }
+
+// Ends the world, and takes up what is left: all that was recovered and released is there, and nothing is received since.
+fn taken_up(rt: &impl Abort, alloc: Global, world: World<MemStable>) -> World<MemStable> {
+    let before = released(rt, alloc, &world);
+    let recovery = world.manager().recovery();
+    assert!(rt; world.is_settled());
+    let left = world.stop(alloc).expect(rt, "memory");
+    let taken = World::take_up(alloc, left);
+    assert!(rt; taken.is_ok());
+    let world = taken.ok().expect(rt, "a world");
+    assert!(rt; recovery.leq(&world.manager().recovery()));
+    assert_eq!(rt; released(rt, alloc, &world).as_slice(), before.as_slice());
+    assert!(rt; world.received().is_empty());
+    assert!(rt; world.last_received().is_none());
+    world
+}
+
+// A chain of two stops, the second after so many further events: in the end the same is released as without any.
+fn two_stops_lose_nothing(
+    rt: &impl Abort,
+    alloc: Global,
+    script: &[Event],
+    count: usize,
+    whole: &[u8],
+) {
+    let mut world = begun(rt, alloc, script, count);
+    settle(rt, alloc, &mut world);
+    let mut world = taken_up(rt, alloc, world);
+    resume_all(rt, alloc, &mut world);
+    for event in script.get(count..).unwrap_or(&[]) {
+        let _ = play(rt, alloc, &mut world, *event);
+    }
+    settle(rt, alloc, &mut world);
+    let mut world = taken_up(rt, alloc, world);
+    resume_all(rt, alloc, &mut world);
+    drive(rt, alloc, &mut world);
+    assert_eq!(rt; released(rt, alloc, &world).as_slice(), whole);
+}
+
+// What was stored before two stops and between them is not lost, and nothing is put out twice or otherwise, wherever a script stops.
+#[test]
+fn two_stops_in_a_drawn_script_lose_nothing(rt: HostRuntime) {
+    let alloc = rt.alloc();
+    for seed in &SEEDS {
+        let script = drawn(&rt, alloc, *seed);
+        let whole = wanted(&rt, alloc, &script);
+        assert_eq!(&rt; whole.is_empty(), false);
+        for count in 0..DRAWN + 1 {
+            two_stops_lose_nothing(&rt, alloc, &script, count, &whole);
+        }
+    }
+    let whole = wanted(&rt, alloc, &RUN_WITH_A_FAILURE);
+    for count in 0..POINTS {
+        two_stops_lose_nothing(&rt, alloc, &RUN_WITH_A_FAILURE, count, &whole);
+    }
+}
+
+// What was received since is told, and last of all what came last.
+#[test]
+fn what_is_received_since_is_told(rt: HostRuntime) {
+    let alloc = rt.alloc();
+    let mut world = begun(&rt, alloc, &RUN_WITH_A_FAILURE, 0);
+    settle(&rt, alloc, &mut world);
+    let mut world = taken_up(&rt, alloc, world);
+    resume_all(&rt, alloc, &mut world);
+    drive(&rt, alloc, &mut world);
+    let last = world.last_received().map(|entry| entry.ssn);
+    assert_eq!(&rt; last, world.received().last().map(|entry| entry.ssn));
+    assert!(&rt; last.is_some());
+}
