@@ -83,12 +83,12 @@ module _ {S : Type 0} (content : S → Content) (health : S → Health) (IsSound
 
 -- ---- which run is taken up
 pub left_chosen : (w v : WorldState) (current : Bool) (run : List Entry) → w ≡ v → (current ≡ true → AreCurrent w) → (current ≡ false → (p : ℕ) × (p < length w.programs) × HasNews w p) → IsWhole v → run ≡ cond current w.live w.since.before → IsLeft v run
-left_chosen w v current run e yes no whole is = subst (λ (x : WorldState). IsLeft x run) e (by current yes no (subst IsWhole (sym e) whole).1 is)
+left_chosen w v current run e all some whole is = subst (λ (x : WorldState). IsLeft x run) e (by current all some (subst IsWhole (sym e) whole).1 is)
   where
     by : (b : Bool) → (b ≡ true → AreCurrent w) → (b ≡ false → (p : ℕ) × (p < length w.programs) × HasNews w p) → {other : List Entry} → IsLeft w other → run ≡ cond b w.live w.since.before → IsLeft w run
-    by true yes no left is = IsLeft.current (yes refl) is
-    by false yes no (IsLeft.current none same) is = let news = no refl in absurd (none news.0 news.1 news.2)
-    by false yes no (IsLeft.between p lt news free same) is = IsLeft.between p lt news free is
+    by true all some left is = IsLeft.current (all refl) is
+    by false all some (IsLeft.current none same) is = let news = some refl in absurd (none news.0 news.1 news.2)
+    by false all some (IsLeft.between p lt news free same) is = IsLeft.between p lt news free is
 
 -- ---- what is kept
 pub keeps_taken : (old mid new : WorldState) (run : List Entry) (m : ManagerState) → HasRead old mid → IsAnew mid m → new ≡ record (anew (along mid run) m) { live = new.live } → Keeps old new
