@@ -1,5 +1,4 @@
-use Rattle.std.proofs.Common.{◌≡◌, ◌≢◌, ◌∙◌, inl, inr, ap, subst, sym, Err}
-use Rattle.om_world.specs.Disk.{IsSettled}
+use Rattle.std.proofs.Common.{◌∙◌, inr, ap, Err}
 use Rattle.om_world.specs.World.{WorldState}
 use Rattle.om_world.proofs.Reading.{settled_after}
 use Rattle.om_world.proofs.Restarted.{restart_happened, restart_refused}
