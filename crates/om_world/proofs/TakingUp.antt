@@ -1,11 +1,7 @@
 -- A world that is taken up.
-use Rattle.std.proofs.Common.{◌≡◌, ◌⊎◌, inl, inr, ℕ, ◌<◌, ◌≤◌, List, [], ◌∷◌, length, map, cond, Bool, true, false, refl, sym, ap, ◌∙◌, subst, arith}
-use Rattle.std.specs.List.{AllByRecursion}
+use Rattle.std.proofs.Common.{◌≡◌, ℕ, ◌≤◌, List, [], ◌∷◌, length, map, cond, Bool, true, false, refl, sym, ap, ◌∙◌, subst, arith}
 use Rattle.std.specs.Prelude.{min, nat_le, slice_index}
-use Rattle.std.proofs.lemmas.Bool.Decides.{nat_tests}
 use Rattle.std.proofs.lemmas.List.{length-take}
-use Rattle.om_interval.specs.Vectors.{IsBelow}
-use Rattle.om_interval.specs.declared.pid.TheConstants.{MAX_PROCESSES}
 use Rattle.om_format.specs.declared.message.Message.{Message}
 use Rattle.om_process.specs.Process.{Program}
 use Rattle.om_stable.specs.Content.{Content}
@@ -19,7 +15,7 @@ use Rattle.om_world.specs.World.{Health, IsKnown, SinceState, WorldState, recove
 use Rattle.om_world.specs.steps.Members.{Besides, downed, seen, sound_in}
 use Rattle.om_world.specs.steps.Moves.{Keeps}
 use Rattle.om_world.specs.steps.Remembered.{fitting}
-use Rattle.om_world.specs.steps.Restarting.{HasRead, HasToldStores, IsAnew, begun_live}
+use Rattle.om_world.specs.steps.Restarting.{HasRead, IsAnew, begun_live}
 use Rattle.om_world.specs.steps.Sound.{HasShape, IsBetween, IsWorld, Sound, before_of}
 use Rattle.om_manager.specs.declared.output_log.Output.{Output}
 use Rattle.om_world.proofs.Legal.{cut_first}
