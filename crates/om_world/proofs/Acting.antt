@@ -1,5 +1,5 @@
 -- What the acts of a member do to its world.
-use Rattle.std.proofs.Common.{◌≡◌, ◌≢◌, ℕ, ◌<◌, List, length, map, set, Some, Result, Ok, Err, refl, sym, ap, ◌∙◌, subst}
+use Rattle.std.proofs.Common.{◌≡◌, ◌≢◌, ℕ, ◌<◌, List, length, map, set, Some, Result, Ok, Err, refl, sym, ap, ◌∙◌, subst, true}
 use Rattle.std.specs.Prelude.{slice_get, drop, Bool, IfErr, IfOk, OnErr, OnOk}
 use Rattle.std.specs.declared.alloc.AllocError.{AllocError}
 use Rattle.om_format.specs.declared.message.Message.{Message}
@@ -63,7 +63,7 @@ module _ {S : Type 0} (content : S → Content) (is_clean : S → Bool) (failed 
         where
           by : (a : Result (Unit {0}) StoreError) → since_told (told_of refusal_of_store (Ok a)) O.since ≡ since_called a O.since
           by (Ok done) = refl
-          by (Err fault) = refl
+          by (Err other) = refl
 
       pub after_stored : IsWorld (sound_in IsSound) (set ms p n) (seen content (health_of is_clean failed) P L F (set ms p n) M (record O { since = since }))
       after_stored =

@@ -27,6 +27,7 @@ use Rattle.om_world.proofs.Gathering.{IsEntering, now_in, running_interval, soun
 use Rattle.om_world.proofs.Lists.{at_change, either, inside, once, set_apart, there}
 use Rattle.om_world.proofs.Between.{between_finished, between_more}
 use Rattle.om_manager.specs.Outputs.{HeldOutput}
+use Rattle.om_manager.specs.declared.answers.Gathered.TheVariants.{Waiting, Finished}
 
 -- ---- a process is placed anew
 abbrev pub placed : WorldState → ℕ → ProcessState → WorldState

@@ -90,7 +90,7 @@ are_in w p x h s e = record {
 }
 
 -- ---- what is claimed of a process goes on
-abbrev past_with : Past → List Entry → ManagerState → Past
+abbrev pub past_with : Past → List Entry → ManagerState → Past
 past_with v live m = record { programs = v.programs; live = live; manager = m }
 
 pub record Goes (v : Past) (live : List Entry) (m : ManagerState) : Type 0 where

@@ -1,11 +1,11 @@
 -- What was received, of which clauses alone know the first part.
-use Rattle.std.proofs.Common.{◌≡◌, ◌≢◌, ◌⊎◌, inl, inr, ℕ, zero, suc, ◌+◌, ◌-◌, ◌≤◌, ◌<◌, List, [], ◌∷◌, ◌++◌, length, take, set, replicate, Some, Bool, true, false, refl, sym, ap, ◌∙◌, subst, arith, length-append, get_or-set_same, get_or-set_other}
+use Rattle.std.proofs.Common.{◌≡◌, ◌≢◌, ◌⊎◌, inl, inr, ℕ, zero, suc, ◌+◌, ◌-◌, ◌≤◌, ◌<◌, List, [], ◌∷◌, ◌++◌, length, set, replicate, Some, Bool, true, false, refl, sym, ap, ◌∙◌, arith, length-append, get_or-set_same, get_or-set_other}
 use Rattle.std.specs.Prelude.{◌&&◌, if◌then◌else◌, min, nat_eq, nat_lt, slice_get, slice_index}
 use Rattle.std.proofs.lemmas.Bool.Decides.{nat_tests}
 use Rattle.std.proofs.lemmas.List.{length-take}
 use Rattle.om_interval.specs.declared.pid.TheConstants.{MAX_PROCESSES}
 use Rattle.om_world.specs.declared.entry.Entry.{Entry}
-use Rattle.om_world.specs.Live.{receipt_of, received, cut_after, cut_list}
+use Rattle.om_world.specs.Live.{received, cut_after, cut_list}
 use Rattle.om_world.specs.steps.Remembered.{AreCounts, any_entries, fits, fitting}
 use Rattle.om_world.proofs.Legal.{append_apart, append_none, cut_first, received-append}
 use Rattle.om_world.proofs.Lists.{either, none_in, once}

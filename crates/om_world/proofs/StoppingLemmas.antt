@@ -146,16 +146,20 @@ still_current w v is none = subst AreCurrent (sym is) none
 pub still_news : (w v : WorldState) → v ≡ stopped w → ((p : ℕ) × (p < length w.programs) × HasNews w p) → (p : ℕ) × (p < length v.programs) × HasNews v p
 still_news w v is news = subst (λ (x : WorldState). (p : ℕ) × (p < length x.programs) × HasNews x p) (sym is) news
 
+left_ended : (w : WorldState) (run : List Entry) → IsLeft (stopped w) run → IsLeft w run
+left_ended w run (IsLeft.current none is) = IsLeft.current none is
+left_ended w run (IsLeft.between p lt news free is) = IsLeft.between p lt news free is
+
 disk_along : (w : WorldState) (run : List Entry) → IsOnDisk (along w run) → IsOnDisk (along (stopped w) run)
 disk_along w run d = record { legal = d.legal; held = d.held; places = d.places; last = d.last; served = d.served; within = d.within; released = d.released }
 
-pub run_disk : {S : Type 0} (IsSound : S → Type 0) (stores : List S) (v w : WorldState) (run : List Entry) → IsWorld IsSound stores v → v ≡ w → IsKnown w → IsLeft w run → IsOnDisk (along (stopped w) run)
-run_disk IsSound stores v w run i e known left = let s = stands IsSound stores v w run i e known left in disk_along w run (on_disk (along w run) s.0 s.1)
+pub run_disk : {S : Type 0} (IsSound : S → Type 0) (stores : List S) (v w : WorldState) (run : List Entry) → IsWorld IsSound stores v → v ≡ w → IsKnown w → IsLeft (stopped w) run → IsOnDisk (along (stopped w) run)
+run_disk IsSound stores v w run i e known left = let s = stands IsSound stores v w run i e known (left_ended w run left) in disk_along w run (on_disk (along w run) s.0 s.1)
 
 pub stopped_disk : {S : Type 0} (IsSound : S → Type 0) (stores : List S) (v w : WorldState) → IsWorld IsSound stores v → v ≡ w → IsKnown w → IsSettled w → IsOnDisk (stopped w)
-stopped_disk IsSound stores v w i e known settled = run_disk IsSound stores v w w.live i e known (IsLeft.current none refl)
+stopped_disk IsSound stores v w i e known settled = run_disk IsSound stores v w w.live i e known (left_stopped w w.live (IsLeft.current none refl))
   where
     none : AreCurrent w
     none p lt news =
         let s = subst Sound e (i.clean (subst IsKnown (sym e) known)).1 in
-        elim (settled p lt) [ inl up ↦ let same = s.current p up in absurd (omega arith) | inr no ↦ no news ]
+        elim (settled p lt) [ inl up ↦ let same = s.current p up in absurd (omega arith) | inr never ↦ never news ]

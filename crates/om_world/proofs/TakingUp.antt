@@ -1,11 +1,7 @@
 -- A world that is taken up.
-use Rattle.std.proofs.Common.{◌≡◌, ◌⊎◌, inl, inr, ℕ, ◌<◌, ◌≤◌, List, [], ◌∷◌, length, map, cond, Bool, true, false, refl, sym, ap, ◌∙◌, subst, arith}
-use Rattle.std.specs.List.{AllByRecursion}
+use Rattle.std.proofs.Common.{◌≡◌, ℕ, ◌≤◌, List, [], ◌∷◌, length, map, cond, Bool, true, false, refl, sym, ap, ◌∙◌, subst, arith}
 use Rattle.std.specs.Prelude.{min, nat_le, slice_index}
-use Rattle.std.proofs.lemmas.Bool.Decides.{nat_tests}
 use Rattle.std.proofs.lemmas.List.{length-take}
-use Rattle.om_interval.specs.Vectors.{IsBelow}
-use Rattle.om_interval.specs.declared.pid.TheConstants.{MAX_PROCESSES}
 use Rattle.om_format.specs.declared.message.Message.{Message}
 use Rattle.om_process.specs.Process.{Program}
 use Rattle.om_stable.specs.Content.{Content}
@@ -19,7 +15,7 @@ use Rattle.om_world.specs.World.{Health, IsKnown, SinceState, WorldState, recove
 use Rattle.om_world.specs.steps.Members.{Besides, downed, seen, sound_in}
 use Rattle.om_world.specs.steps.Moves.{Keeps}
 use Rattle.om_world.specs.steps.Remembered.{fitting}
-use Rattle.om_world.specs.steps.Restarting.{HasRead, HasToldStores, IsAnew, begun_live}
+use Rattle.om_world.specs.steps.Restarting.{HasRead, IsAnew, begun_live}
 use Rattle.om_world.specs.steps.Sound.{HasShape, IsBetween, IsWorld, Sound, before_of}
 use Rattle.om_manager.specs.declared.output_log.Output.{Output}
 use Rattle.om_world.proofs.Legal.{cut_first}
@@ -83,12 +79,12 @@ module _ {S : Type 0} (content : S → Content) (health : S → Health) (IsSound
 
 -- ---- which run is taken up
 pub left_chosen : (w v : WorldState) (current : Bool) (run : List Entry) → w ≡ v → (current ≡ true → AreCurrent w) → (current ≡ false → (p : ℕ) × (p < length w.programs) × HasNews w p) → IsWhole v → run ≡ cond current w.live w.since.before → IsLeft v run
-left_chosen w v current run e yes no whole is = subst (λ (x : WorldState). IsLeft x run) e (by current yes no (subst IsWhole (sym e) whole).1 is)
+left_chosen w v current run e all some whole is = subst (λ (x : WorldState). IsLeft x run) e (by current all some (subst IsWhole (sym e) whole).1 is)
   where
     by : (b : Bool) → (b ≡ true → AreCurrent w) → (b ≡ false → (p : ℕ) × (p < length w.programs) × HasNews w p) → {other : List Entry} → IsLeft w other → run ≡ cond b w.live w.since.before → IsLeft w run
-    by true yes no left is = IsLeft.current (yes refl) is
-    by false yes no (IsLeft.current none same) is = let news = no refl in absurd (none news.0 news.1 news.2)
-    by false yes no (IsLeft.between p lt news free same) is = IsLeft.between p lt news free is
+    by true all some left is = IsLeft.current (all refl) is
+    by false all some (IsLeft.current none same) is = let news = some refl in absurd (none news.0 news.1 news.2)
+    by false all some (IsLeft.between p lt news free same) is = IsLeft.between p lt news free is
 
 -- ---- what is kept
 pub keeps_taken : (old mid new : WorldState) (run : List Entry) (m : ManagerState) → HasRead old mid → IsAnew mid m → new ≡ record (anew (along mid run) m) { live = new.live } → Keeps old new

@@ -97,11 +97,13 @@ impl<S: Stable> World<S> {
         ensures unsettled { IfErr result (λ why. (why ≡ Refusal.Unsettled)
             × ((p : _) × (p < length self.now.programs) × HasNews self.now p) × (self.now.since.stored ≡ true)) }
     {
-        let current = self.is_current();
-        if !current && self.since.stored {
+        if self.is_current() {
+            return Ok(true);
+        }
+        if self.since.has_stored() {
             return Err(Refusal::Unsettled);
         }
-        Ok(current)
+        Ok(false)
     }
 
     // Returns the rows that the store of a process stands for.

@@ -44,6 +44,13 @@ impl Since {
         }
     }
 
+    // Whether a process has stored.
+    pub(crate) fn has_stored(&self) -> bool
+        ensures { result ≡ self.now.stored }
+    {
+        self.stored
+    }
+
     // A store was called, and may hold more.
     pub(crate) fn note_stored(&mut self, told: &Result<(), Refusal>)
         ensures { self.new ≡ since_told told.now self.old }

@@ -100,7 +100,7 @@ impl<S: Stable> World<S> {
         ensures current { AreCurrent self → IfOk result AreCurrent }
         ensures whole { (run : List Entry) → IsLeft self run → IfOk result (λ left. IsLeft left run) }
         ensures disk { IfOk result (λ left. IsKnown left → IsSettled self → IsOnDisk left) }
-        ensures between { IfOk result (λ left. IsKnown left → (run : List Entry) → IsLeft self run → IsOnDisk (along left run)) }
+        ensures between { IfOk result (λ left. IsKnown left → (run : List Entry) → IsLeft left run → IsOnDisk (along left run)) }
     {
         let released = released_by(alloc, &self.manager)?;
         let live = Remembered::all(&self.live);

@@ -106,12 +106,12 @@ IsOfLog batch = Unit {0}
 -- what is kept of the last finished round, once a store was called
 abbrev pub since_called : Result (Unit {0}) StoreError → SinceState → SinceState
 since_called (Ok done) since = has_stored since
-since_called (Err fault) since = since
+since_called (Err other) since = since
 
 -- the same by what is told of the call
 abbrev pub since_told : Result (Unit {0}) Refusal → SinceState → SinceState
 since_told (Ok done) since = has_stored since
-since_told (Err refusal) since = since
+since_told (Err other) since = since
 
 -- a process stored a batch of what it keeps, or its store refused; a log's receipts are never there already
 pub record HasCalled (kind : Batch) (old : WorldState) (p : ℕ) (answer : Result (Unit {0}) StoreError) (new : WorldState) : Type 0 where

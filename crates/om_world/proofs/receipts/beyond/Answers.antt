@@ -1,4 +1,4 @@
-use Rattle.std.proofs.Common.{◌≡◌, ◌-◌, ◌<◌, ◌≤◌, ◌∙◌, ap, arith, length, length-set, set, subst, sym}
+use Rattle.std.proofs.Common.{◌≡◌, ◌-◌, ◌∙◌, ap, arith, length, length-set, set}
 use Rattle.std.specs.Prelude.{slice_index}
 use Rattle.om_world.proofs.Remembering.{less_all, set_before, set_next}
 use Rattle.om_world.proofs.receipts.beyond.Goals as goal

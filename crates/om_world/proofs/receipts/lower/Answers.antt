@@ -1,4 +1,4 @@
-use Rattle.std.proofs.Common.{◌<◌, ◌∙◌, ap, arith, length, length-set, sym}
+use Rattle.std.proofs.Common.{◌∙◌, ap, arith, length-set}
 use Rattle.std.specs.Prelude.{min, slice_index}
 use Rattle.om_world.proofs.Remembering.{set_before, set_next}
 use Rattle.om_world.proofs.receipts.lower.Goals as goal

@@ -1,4 +1,4 @@
-use Rattle.std.proofs.Common.{◌≡◌, ◌++◌, ◌∙◌, ap, subst, sym}
+use Rattle.std.proofs.Common.{◌++◌, ◌∙◌, ap, subst, sym}
 use Rattle.std.specs.Prelude.{slice_index}
 use Rattle.om_world.specs.Live.{cut_list}
 use Rattle.om_world.specs.steps.Counts.{LiveState}

@@ -1,4 +1,4 @@
-use Rattle.std.proofs.Common.{inl, inr, ◌≤◌, ◌<◌, ◌∙◌, arith, length, subst, sym}
+use Rattle.std.proofs.Common.{inl, inr, ◌≤◌, ◌∙◌, arith, length, subst, sym}
 use Rattle.om_manager.specs.State.{released_by}
 use Rattle.om_world.proofs.Lists.{either}
 use Rattle.om_world.proofs.TakingUp.{as_long}

@@ -1,6 +1,5 @@
-use Rattle.std.proofs.Common.{◌≡◌, ◌∙◌, ap, length, subst, sym, Err, rules, arith}
+use Rattle.std.proofs.Common.{◌≡◌, ◌∙◌, ap, length, subst, Err, rules, arith}
 use Rattle.std.proofs.lemmas.List.{length-replicate}
-use Rattle.om_interval.specs.Vectors.{IsBelow}
 use Rattle.om_manager.specs.State.{process_count, released_by}
 use Rattle.om_world.specs.Started.{IsNew}
 use Rattle.om_world.specs.World.{WorldState}

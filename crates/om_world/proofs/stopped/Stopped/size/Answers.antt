@@ -1,4 +1,4 @@
-use Rattle.std.proofs.Common.{◌≤◌, arith}
+use Rattle.std.proofs.Common.{arith}
 use Rattle.om_world.specs.World.{program_of}
 use Rattle.om_world.proofs.Lists.{length-map}
 use Rattle.om_world.proofs.stopped.Stopped.size.Goals as goal

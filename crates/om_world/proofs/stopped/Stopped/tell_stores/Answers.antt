@@ -2,7 +2,6 @@ use Rattle.std.proofs.Common.{◌≡◌, ◌<◌, ◌∙◌, ap, arith, length, 
 use Rattle.std.specs.Prelude.{IfErr}
 use Rattle.std.proofs.lemmas.List.{length-replicate}
 use Rattle.om_manager.specs.Outputs.{held_of}
-use Rattle.om_manager.specs.Sound.{IsManager}
 use Rattle.om_manager.specs.State.{process_count, released_by}
 use Rattle.om_member.specs.Handed.{made_of}
 use Rattle.om_take_up.specs.TakenUp.{HasTakenUp, IsTakenUp}

@@ -53,4 +53,4 @@ returns-clause-between g c = λ known run left.
     let s = g.S.Stable in
     let is = was_stopped s.content (health_of s.is_clean s.failed) s.IsSound _ _ _ c.self.inside.members.items _ _ c.args.self c.self.invariant c.self.view_is
     c.end_all.new.members.items c.end_all.ensures c.all-live.result.entries c.all-live.ensures c.of-manager.result.value c.of-manager.ensures in
-    subst (λ (w : WorldState). IsOnDisk (along w run)) (sym is) (run_disk (sound_in s.IsSound) _ _ c.args.self run c.self.invariant c.self.view_is (subst IsKnown is known) left)
+    subst (λ (w : WorldState). IsOnDisk (along w run)) (sym is) (run_disk (sound_in s.IsSound) _ _ c.args.self run c.self.invariant c.self.view_is (subst IsKnown is known) (subst (λ (w : WorldState). IsLeft w run) is left))

@@ -1,4 +1,4 @@
-use Rattle.std.proofs.Common.{◌≡◌, ◌≢◌, ◌∙◌, ap, subst, sym, Err}
+use Rattle.std.proofs.Common.{◌∙◌, ap, Err}
 use Rattle.om_world.specs.World.{WorldState}
 use Rattle.om_world.proofs.Reading.{left_back, whole_after}
 use Rattle.om_world.proofs.Restarted.{restart_happened, restart_refused}
