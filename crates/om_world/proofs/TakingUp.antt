@@ -1,5 +1,5 @@
 -- A world that is taken up.
-use Rattle.std.proofs.Common.{◌≡◌, ℕ, ◌≤◌, List, [], ◌∷◌, length, map, cond, Bool, true, false, refl, sym, ap, ◌∙◌, subst, arith}
+use Rattle.std.proofs.Common.{◌≡◌, ℕ, ◌≤◌, List, [], ◌∷◌, length, map, cond, Bool, true, false, refl, sym, ap, ◌∙◌, subst, arith, ◌<◌}
 use Rattle.std.specs.Prelude.{min, nat_le, slice_index}
 use Rattle.std.proofs.lemmas.List.{length-take}
 use Rattle.om_format.specs.declared.message.Message.{Message}
@@ -25,6 +25,7 @@ use Rattle.om_world.proofs.Remembering.{fitting_same}
 use Rattle.om_world.proofs.Restarted.{after_anew, keeps_anew, was_anew}
 use Rattle.om_world.specs.Stopped.{IsLeft, along, AreCurrent, IsWhole}
 use Rattle.om_world.specs.Failures.{HasNews}
+use Rattle.om_interval.specs.declared.pid.TheConstants.{MAX_PROCESSES}
 
 -- ---- where what the stores hold is known, each process received as much as is recovered
 cut_long : (w : WorldState) (m : ManagerState) (live : List Entry) → HasShape w → Sound w → w.manager ≡ m → w.live ≡ cut_list (recovered m) live → (p : ℕ) → length (received p w.live) ≡ recovered m p

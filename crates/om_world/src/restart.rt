@@ -8,6 +8,7 @@ ghost use Rattle.om_world.specs.Changes.{HasFailed};
 ghost use Rattle.om_world.specs.Disk.{AreTrue, held_in};
 ghost use Rattle.om_world.specs.Failures.{HasNews};
 ghost use Rattle.om_world.specs.Happened.{Happened};
+ghost use Rattle.om_world.specs.Live.{cut_list};
 ghost use Rattle.om_world.specs.Played.{IsCounted, IsFaultless};
 ghost use Rattle.om_world.specs.Restarted.{anew};
 ghost use Rattle.om_world.specs.Started.{IsNew};
@@ -18,6 +19,7 @@ ghost use Rattle.om_world.specs.declared.event.Event.{Event};
 ghost use Rattle.om_world.specs.declared.event.Refusal.{Refusal};
 ghost use Rattle.om_world.specs.steps.Members.{downed};
 ghost use Rattle.om_world.specs.steps.Moves.{Keeps, answered};
+ghost use Rattle.om_world.specs.steps.Remembered.{fitting};
 ghost use Rattle.om_world.specs.steps.Restarting.{HasRead, HasToldStores, IsAnew, IsRefusal, begun_live, left_run, refusal_of_rows};
 
 use crate::event::{Answer, Refusal};
@@ -45,6 +47,15 @@ pub(crate) fn put_down<S: Stable>(members: &mut Vec<Member<S>>)
     }
 }
 
+// Leaves of what had been received before the last finished round what a restart recovers.
+fn begin_before(alloc: Global, live: &mut Receipts, since: &mut Since, state: &DepVec)
+    ensures live { live.new.entries ≡ fitting (λ p. slice_index state.now p) (cut_list (λ p. slice_index state.now p) since.old.before) }
+    ensures since { since.new ≡ record { before = since.old.before; stored = false } }
+{
+    *live = Receipts::before(alloc, &since.before, state);
+    since.stored = false;
+}
+
 // Leaves of what was received what a restart recovers: of what was received last, or before the last finished round.
 fn begin_live(
     alloc: Global,
@@ -60,8 +71,7 @@ fn begin_live(
         since.finish(live);
         live.cut(state);
     } else {
-        *live = Receipts::before(alloc, &since.before, state);
-        since.stored = false;
+        begin_before(alloc, live, since, state);
     }
 }
 
