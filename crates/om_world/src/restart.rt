@@ -57,13 +57,7 @@ fn begin_before(alloc: Global, live: &mut Receipts, since: &mut Since, state: &D
 }
 
 // Leaves of what was received what a restart recovers: of what was received last, or before the last finished round.
-fn begin_live(
-    alloc: Global,
-    live: &mut Receipts,
-    since: &mut Since,
-    state: &DepVec,
-    current: bool,
-)
+fn begin_live(alloc: Global, live: &mut Receipts, since: &mut Since, state: &DepVec, current: bool)
     ensures live { live.new.entries ≡ begun_live current (λ p. slice_index state.now p) live.old.entries since.old.before }
     ensures since { since.new ≡ record { before = cond current live.old.entries since.old.before; stored = false } }
 {
@@ -178,7 +172,13 @@ impl<S: Stable> World<S> {
     {
         put_down(&mut self.members);
         self.frames.clear();
-        begin_live(alloc, &mut self.live, &mut self.since, &manager.recovery(), current);
+        begin_live(
+            alloc,
+            &mut self.live,
+            &mut self.since,
+            &manager.recovery(),
+            current,
+        );
         self.manager = manager;
     }
 

@@ -24,9 +24,9 @@ returns g c =
       run,
       left,
       was_taken s.content (health_of s.is_clean s.failed) s.IsSound _ _ _ c.self.inside.members.items _ _ c.args.self c.self.invariant.world c.self.view_is run m c.before-2.result.entries
-      (λ long. c.before-2.ensures ∙ ap (λ r. fitting (slice_index r) (cut_list (slice_index r) run)) c.recovery.ensures.recovery ∙ fitting_same (recovered m) (cut_list (recovered m) run) long) c.at.result c.at.ensures
-      c.new.result.items c.new.ensures.items c.put_down.new.members.items c.put_down.ensures left c.requires.anew,
+          (λ long. c.before-2.ensures ∙ ap (λ r. fitting (slice_index r) (cut_list (slice_index r) run)) c.recovery.ensures.recovery ∙ fitting_same (recovered m) (cut_list (recovered m) run) long) c.at.result c.at.ensures
+          c.new.result.items c.new.ensures.items c.put_down.new.members.items c.put_down.ensures left c.requires.anew,
       was_taken_whole s.content (health_of s.is_clean s.failed) s.IsSound _ _ _ c.self.inside.members.items _ _ c.args.self c.self.invariant.world c.self.view_is run m c.before-2.result.entries
-      (λ long. c.before-2.ensures ∙ ap (λ r. fitting (slice_index r) (cut_list (slice_index r) run)) c.recovery.ensures.recovery ∙ fitting_same (recovered m) (cut_list (recovered m) run) long) c.at.result c.at.ensures
-      c.new.result.items c.new.ensures.items c.put_down.new.members.items c.put_down.ensures left c.requires.anew,
+          (λ long. c.before-2.ensures ∙ ap (λ r. fitting (slice_index r) (cut_list (slice_index r) run)) c.recovery.ensures.recovery ∙ fitting_same (recovered m) (cut_list (recovered m) run) long) c.at.result c.at.ensures
+          c.new.result.items c.new.ensures.items c.put_down.new.members.items c.put_down.ensures left c.requires.anew,
     )
