@@ -1,7 +1,7 @@
 use Rattle.std.proofs.Common.{◌≡◌, ◌≢◌, ◌∙◌, ℕ, List, length, ap, subst, sym}
 use Rattle.std.specs.Prelude.{IfErr}
 use Rattle.om_board.specs.CellNames.{CellName}
-use Rattle.om_report.proofs.FollowLemmas.{told_at_start}
+use Rattle.om_runner.proofs.ToldLemmas.{told_at_start}
 use Rattle.om_runner.proofs.ReportLemmas.{made_of_images}
 use Rattle.om_process.specs.Process.{Program}
 use Rattle.om_report.specs.Telling.{AreInOrder, AreToldMade, Told}
