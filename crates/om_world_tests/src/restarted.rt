@@ -10,8 +10,10 @@ use std::process::Abort;
 // How often each process runs, sends again, is offered all frames and stores, until nothing more comes.
 const TURNS: usize = 4;
 
-// Behind the return of process 0 in the script with a failure, and behind that of process 1: process 2 is not back.
-static BETWEEN: [usize; 2] = [12, 13];
+// Behind the round of the script with a failure, behind the return of process 0, and behind that of process 1: process 2 is not back.
+static BETWEEN: [usize; 3] = [11, 12, LAST_BETWEEN];
+
+const LAST_BETWEEN: usize = 13;
 
 // More frames than a script makes.
 const FRAMES: usize = 64;
@@ -149,14 +151,15 @@ fn a_restart_before_the_last_return_wants_nothing_stored(rt: HostRuntime) {
         assert_eq!(&rt; first, Answer::Restarted);
         let is_unsettled = loses_nothing(&rt, alloc, &mut world, &whole);
         assert!(&rt; !is_unsettled);
-        let mut world = begun(&rt, alloc, &RUN_WITH_A_FAILURE, count);
-        assert!(&rt; world.is_settled());
-        let stored = play(&rt, alloc, &mut world, Event::Checkpoint { process: 0 });
-        assert_eq!(&rt; stored, Answer::Noted(1));
-        assert!(&rt; !world.is_settled());
-        let is_unsettled = loses_nothing(&rt, alloc, &mut world, &whole);
-        assert!(&rt; is_unsettled);
     }
+    let mut world = begun(&rt, alloc, &RUN_WITH_A_FAILURE, LAST_BETWEEN);
+    take_all(&rt, alloc, &mut world, 1);
+    assert!(&rt; world.is_settled());
+    let stored = play(&rt, alloc, &mut world, Event::Flush { process: 1 });
+    assert_eq!(&rt; stored, Answer::Noted(1));
+    assert!(&rt; !world.is_settled());
+    let is_unsettled = loses_nothing(&rt, alloc, &mut world, &whole);
+    assert!(&rt; is_unsettled);
 }
 
 // The event that a number stands for: of thirty-six, nine run, nine are offers, and six store.
