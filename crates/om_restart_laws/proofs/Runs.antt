@@ -8,7 +8,7 @@ use Rattle.om_world.specs.declared.event.Answer.{Answer}
 use Rattle.om_world.specs.declared.event.Event.{Event}
 use Rattle.om_world.specs.Holds.{Holds}
 use Rattle.om_world.specs.Played.{Played}
-use Rattle.om_world.specs.Stopped.{stopped}
+use Rattle.om_world.specs.Stopped.{along, stopped}
 use Rattle.om_world.specs.World.{WorldState}
 use Rattle.om_world.proofs.Restarting.{no_core}
 use Rattle.om_restart_laws.specs.Alone.{StandsOver}
@@ -23,8 +23,8 @@ played_holds old new (e ∷ events) [] h p = absurd p
 played_holds old new (e ∷ events) (a ∷ answers) h p = played_holds p.0 new events answers p.1.holds p.2
 
 -- ---- a world that is taken up
-taken_stands : (ended begun : WorldState) → WasTakenUp ended begun → StandsOver ended.programs ended.live ended.manager.recovery ended.contents (released_by ended.manager) begun.manager
-taken_stands ended begun t = stands_over ended.programs ended.live ended.manager.recovery ended.contents (released_by ended.manager) begun.manager (are_left (stopped ended) t.disk) (starts_over (stopped ended) begun t.restarted)
+taken_stands : (ended begun : WorldState) (t : WasTakenUp ended begun) → StandsOver ended.programs t.restarted.run ended.manager.recovery ended.contents (released_by ended.manager) begun.manager
+taken_stands ended begun t = stands_over ended.programs t.restarted.run ended.manager.recovery ended.contents (released_by ended.manager) begun.manager (are_left (along (stopped ended) t.restarted.run) t.disk) (starts_over (stopped ended) begun t.restarted)
 
 taken_holds : (ended begun : WorldState) → WasTakenUp ended begun → Holds begun
 taken_holds ended begun t =

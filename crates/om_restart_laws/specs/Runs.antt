@@ -7,7 +7,7 @@ use Rattle.om_world.specs.declared.event.Event.{Event}
 use Rattle.om_world.specs.Disk.{IsOnDisk}
 use Rattle.om_world.specs.Played.{Played}
 use Rattle.om_world.specs.Restarted.{HasRestarted}
-use Rattle.om_world.specs.Stopped.{stopped}
+use Rattle.om_world.specs.Stopped.{along, stopped}
 use Rattle.om_world.specs.World.{WorldState}
 
 -- a world was played to another, as `World::play` says
@@ -20,8 +20,8 @@ pub record WasPlayed (old new : WorldState) : Type 0 where
 
 -- a world ended and left this on its disk, and what it left was taken up by another, as `World::stop` and `World::take_up` say
 pub record WasTakenUp (ended begun : WorldState) : Type 0 where
-  pub disk : IsOnDisk (stopped ended)
   pub restarted : HasRestarted (stopped ended) begun
+  pub disk : IsOnDisk (along (stopped ended) restarted.run)
 
 -- a world that ended, and the one that took up what it left
 pub record Stop : Type 0 where

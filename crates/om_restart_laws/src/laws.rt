@@ -25,6 +25,7 @@ ghost use Rattle.om_world.specs.Holds.{Holds};
 ghost use Rattle.om_world.specs.Disk.{AreTrue, CanServe, DependsWithin, IsOnDisk, held_in};
 ghost use Rattle.om_world.specs.World.{WorldState};
 ghost use Rattle.om_world.specs.Restarted.{HasRestarted};
+ghost use Rattle.om_world.specs.Stopped.{AreCurrent, along};
 ghost use Rattle.om_restart_laws.specs.Alone.{AreLeft, StandsOver, content_of};
 ghost use Rattle.om_restart_laws.specs.Chains.{GoesOnFrom, IsChain, IsSaid, Start};
 ghost use Rattle.om_restart_laws.specs.Runs.{AreRuns, Stop};
@@ -80,10 +81,13 @@ pub fn a_start_goes_on()
         → IsGreatest (length w.programs) rows state → IsTakenUpAt w state }
 {}
 
-/// The event of a restart is such a start: the world behind it stands at the recovery state of its manager, and goes on from there.
+/// The event of a restart is such a start, over the run of which the stores are: the world behind it stands at the recovery state of its
+/// manager, and goes on from there. Where each process knows the last finished round, that run is all that was received.
 pub fn a_restart_is_a_start()
-    ensures at { (old new : WorldState) → IsOnDisk old → HasRestarted old new → IsTakenUpAt old new.manager.recovery }
-    ensures on { (old new : WorldState) → HasRestarted old new → GoesOnFrom old new.manager.recovery new }
+    ensures at { (old new : WorldState) (r : HasRestarted old new) → IsOnDisk (along old r.run)
+        → IsTakenUpAt (along old r.run) new.manager.recovery }
+    ensures on { (old new : WorldState) (r : HasRestarted old new) → GoesOnFrom (along old r.run) new.manager.recovery new }
+    ensures settled { (old new : WorldState) (r : HasRestarted old new) → AreCurrent old → r.run ≡ old.live }
 {}
 
 /// However often it ends and is taken up again, all is one run: what the last world received is a run without failures, along which each

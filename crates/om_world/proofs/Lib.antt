@@ -57,3 +57,5 @@ pub mod Seating
 pub mod Remembering
 pub mod StoppingLemmas
 pub mod TakingUp
+pub mod Between
+pub mod Leaving

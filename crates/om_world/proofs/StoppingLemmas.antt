@@ -14,16 +14,18 @@ use Rattle.om_manager.specs.declared.output_log.Output.{Output}
 use Rattle.om_world.specs.declared.entry.Entry.{Entry}
 use Rattle.om_world.specs.declared.process_state.ProcessState.{ProcessState}
 use Rattle.om_world.specs.Disk.{IsOnDisk, IsSettled}
-use Rattle.om_world.specs.Stopped.{stopped}
+use Rattle.om_world.specs.Stopped.{AreCurrent, IsLeft, along, stopped}
 use Rattle.om_world.specs.World.{Health, IsKnown, WorldState}
-use Rattle.om_world.specs.steps.Members.{content_in, core_in, health_in, place_in, round_in, seen, sound_in}
+use Rattle.om_world.specs.steps.Members.{Besides, content_in, core_in, health_in, place_in, round_in, seen, sound_in}
 use Rattle.om_world.specs.steps.Sound.{HasShape, IsWorld, Sound}
 use Rattle.om_world.specs.steps.Stopping.{AreReleasedBy, halted}
 use Rattle.om_world.proofs.Disk.{on_disk}
 use Rattle.om_world.proofs.Lists.{inside, length-map, none_in, once}
 use Rattle.om_world.proofs.Restarting.{at_place, down_in, down_up, no_core, none_up}
 use Rattle.om_world.proofs.Seats.{world_is}
+use Rattle.om_world.proofs.Undamaged.{stands}
 use Rattle.om_world.proofs.TakenDown.{ended}
+use Rattle.om_world.specs.Failures.{HasNews}
 
 shape_stopped : (w : WorldState) → HasShape w → HasShape (stopped w)
 shape_stopped w h = record {
@@ -67,6 +69,7 @@ world_stopped : {S T : Type 0} (IsSound : S → Type 0) (xs : List S) (Other : T
 world_stopped IsSound xs Other ys w goes i = record {
   shape = shape_stopped w i.shape;
   clean = λ known. let s = i.clean known in (goes s.0, sound_stopped w i.shape s.1);
+  between = i.between;
 }
 
 -- ---- what was released
@@ -93,7 +96,7 @@ released_more m released outputs are held numbered p found at = elim (more_had r
 ]
 
 -- ---- its members
-module _ {S : Type 0} (content : S → Content) (health : S → Health) (IsSound : S → Type 0) (P : List Program) (L : List Entry) (F : List Message) (ms : List (Member S)) (M : ManagerState) (O : List Content) (v : WorldState)
+module _ {S : Type 0} (content : S → Content) (health : S → Health) (IsSound : S → Type 0) (P : List Program) (L : List Entry) (F : List Message) (ms : List (Member S)) (M : ManagerState) (O : Besides) (v : WorldState)
     (i : IsWorld (sound_in IsSound) ms (seen content health P L F ms M O)) (e : seen content health P L F ms M O ≡ v) (now : List (Member S)) (down : now ≡ map halted ms)
     (live : List Entry) (received : live ≡ L) (manager : ManagerState) (managed : manager ≡ M) where
   all_sound : (xs : List (Member S)) → AllByRecursion (sound_in IsSound) xs → AllByRecursion (sound_in IsSound) (map halted xs)
@@ -117,7 +120,7 @@ module _ {S : Type 0} (content : S → Content) (health : S → Health) (IsSound
       (all_same core_in None (λ y. refl) ms ∙ ap (λ n. replicate n None) many)
       (all_same place_in (ProcessState.Down true) (λ y. refl) ms ∙ ap (λ n. replicate n (ProcessState.Down true)) many)
       (all_kept round_in (λ y. refl) ms)
-      refl (all_kept (content_in content) (λ y. refl) ms) (all_kept (health_in health) (λ y. refl) ms) refl
+      refl (all_kept (content_in content) (λ y. refl) ms) (all_kept (health_in health) (λ y. refl) ms) refl refl
 
   as_now : seen content health P L [] now M O ≡ stopped (seen content health P L F ms M O)
   as_now = ap (λ l. seen content health P L [] l M O) down ∙ as_stopped
@@ -133,8 +136,30 @@ module _ {S : Type 0} (content : S → Content) (health : S → Health) (IsSound
   was_stopped = as_left ∙ as_now ∙ ap stopped e
 
 -- what it leaves
-pub stopped_disk : (w : WorldState) → (IsKnown w → HasShape w × Sound w) → IsKnown w → IsSettled w → IsOnDisk (stopped w)
-stopped_disk w stands known settled =
-    let w_stands = stands known in
-    let d = on_disk w w_stands.0 w_stands.1 settled in
-    record { legal = d.legal; held = d.held; places = d.places; last = d.last; served = d.served; within = d.within; released = d.released }
+pub left_stopped : (w : WorldState) (run : List Entry) → IsLeft w run → IsLeft (stopped w) run
+left_stopped w run (IsLeft.current none is) = IsLeft.current none is
+left_stopped w run (IsLeft.between p lt news free is) = IsLeft.between p lt news free is
+
+pub still_current : (w v : WorldState) → v ≡ stopped w → AreCurrent w → AreCurrent v
+still_current w v is none = subst AreCurrent (sym is) none
+
+pub still_news : (w v : WorldState) → v ≡ stopped w → ((p : ℕ) × (p < length w.programs) × HasNews w p) → (p : ℕ) × (p < length v.programs) × HasNews v p
+still_news w v is news = subst (λ (x : WorldState). (p : ℕ) × (p < length x.programs) × HasNews x p) (sym is) news
+
+left_ended : (w : WorldState) (run : List Entry) → IsLeft (stopped w) run → IsLeft w run
+left_ended w run (IsLeft.current none is) = IsLeft.current none is
+left_ended w run (IsLeft.between p lt news free is) = IsLeft.between p lt news free is
+
+disk_along : (w : WorldState) (run : List Entry) → IsOnDisk (along w run) → IsOnDisk (along (stopped w) run)
+disk_along w run d = record { legal = d.legal; held = d.held; places = d.places; last = d.last; served = d.served; within = d.within; released = d.released }
+
+pub run_disk : {S : Type 0} (IsSound : S → Type 0) (stores : List S) (v w : WorldState) (run : List Entry) → IsWorld IsSound stores v → v ≡ w → IsKnown w → IsLeft (stopped w) run → IsOnDisk (along (stopped w) run)
+run_disk IsSound stores v w run i e known left = let s = stands IsSound stores v w run i e known (left_ended w run left) in disk_along w run (on_disk (along w run) s.0 s.1)
+
+pub stopped_disk : {S : Type 0} (IsSound : S → Type 0) (stores : List S) (v w : WorldState) → IsWorld IsSound stores v → v ≡ w → IsKnown w → IsSettled w → IsOnDisk (stopped w)
+stopped_disk IsSound stores v w i e known settled = run_disk IsSound stores v w w.live i e known (left_stopped w w.live (IsLeft.current none refl))
+  where
+    none : AreCurrent w
+    none p lt news =
+        let s = subst Sound e (i.clean (subst IsKnown (sym e) known)).1 in
+        elim (settled p lt) [ inl up ↦ let same = s.current p up in absurd (omega arith) | inr never ↦ never news ]

@@ -1,5 +1,5 @@
 -- What is said of several events: who changes, what is sent, handed in and stored.
-use Rattle.std.specs.Prelude.{◌≡◌, ◌⊎◌, ℕ, zero, suc, ◌<◌, ◌≤◌, List, [], ◌++◌, length, take, drop, slice_get, slice_set, Some}
+use Rattle.std.specs.Prelude.{◌≡◌, ◌⊎◌, ℕ, zero, suc, ◌<◌, ◌≤◌, List, [], ◌++◌, length, take, drop, slice_get, slice_set, true, Some}
 use Rattle.om_format.specs.declared.message.Message.{Message}
 use Rattle.om_format.specs.Queues.{queue_end}
 use Rattle.om_stable.specs.Content.{Content}
@@ -13,7 +13,7 @@ use Rattle.om_member.specs.Told.{AreTold}
 use Rattle.om_manager.specs.Outputs.{HeldOutput}
 use Rattle.om_manager.specs.State.{ManagerState, held_by}
 use Rattle.om_world.specs.declared.process_state.ProcessState.{ProcessState}
-use Rattle.om_world.specs.World.{Health, WorldState}
+use Rattle.om_world.specs.World.{Health, SinceState, WorldState}
 pub use Rattle.om_member.specs.Members.{HasGained, stored}
 pub use Rattle.om_member.specs.Told.{row_for}
 
@@ -70,11 +70,15 @@ abbrev pub HoldsMore : ManagerState → ℕ → ManagerState → Type 0
 HoldsMore old p new = (more : List HeldOutput) × (new ≡ record old { outputs = slice_set old.outputs p (held_by old p ++ more) })
 
 -- ---- records that are stored and noted
+-- a process has stored
+abbrev pub has_stored : SinceState → SinceState
+has_stored since = record since { stored = true }
+
 -- the store of process p gained it
 abbrev pub HasStored : Batch → WorldState → ℕ → CoreState → WorldState → Type 0
 HasStored kind old p c new =
     (before : Content) × (after : Content) × (slice_get old.contents p ≡ Some before) × HasGained kind c before after
-    × (new.contents ≡ slice_set old.contents p after)
+    × (new.contents ≡ slice_set old.contents p after) × (new.since ≡ has_stored old.since)
 
 -- the first so many of the pending rows of the core, as it was once it had stored, are noted and no longer pending
 pub record HasNoted (old : WorldState) (p : ℕ) (c d : CoreState) (count : ℕ) (new : WorldState) : Type 0 where

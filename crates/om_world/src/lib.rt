@@ -7,7 +7,7 @@
 //! In an order of reading:
 //!
 //! - what there is: `event` (events and answers), `world` (the parts, and the reads), `process_state`; `entry`, `receipts` and `live`
-//!   (what was received), `remembered` and `leave` (what of it clauses alone know); `laws` (theorems over the definitions)
+//!   (what was received), `remembered` and `leave` (what of it clauses alone know), `since` (the last finished round); `laws` (theorems over the definitions)
 //! - `start`, and `play`: one event after another; `stopping`: the end; `stopped`: what is left of a world, which `taking_up` takes up
 //! - the events: `run`, `give`, `frames` (what is sent), `storing` (flushes and checkpoints), `failing`, `joining`, `resume`, `trim`,
 //!   `prune`, `restart`
@@ -37,6 +37,7 @@ mod remembered;
 mod restart;
 mod resume;
 mod run;
+mod since;
 mod start;
 mod stopped;
 mod stopping;

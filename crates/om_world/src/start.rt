@@ -10,6 +10,7 @@ ghost use Rattle.om_world.specs.Started.{HaveFirst, IsLoadable, IsNew, IsRefused
 ghost use Rattle.om_world.specs.steps.Starting.{AreSeated, IsStart};
 
 use crate::receipts::Receipts;
+use crate::since::Since;
 use crate::world::World;
 use om_interval::Pid;
 use om_manager::Manager;
@@ -134,6 +135,7 @@ impl<S: Stable> World<S> {
             members,
             manager,
             origins,
+            since: Since::new(),
         })
     }
 }

@@ -1,13 +1,17 @@
 //! What is left of a world that ended.
 
-ghost use Rattle.std.specs.Prelude.{◌≡◌, ◌<◌, ◌≤◌, IfOk, length, map};
+ghost use Rattle.std.specs.Prelude.{◌≡◌, ◌<◌, ◌≤◌, IfOk, List, length, map};
 ghost use Rattle.om_interval.specs.declared.pid.TheConstants.{MAX_PROCESSES};
 ghost use Rattle.om_manager.specs.Outputs.{AreNumbered, held_of};
 ghost use Rattle.om_manager.specs.State.{released_by};
+ghost use Rattle.om_world.specs.Stopped.{IsLeft, along};
 ghost use Rattle.om_world.specs.World.{IsKnown};
-ghost use Rattle.om_world.specs.steps.Sound.{HasShape, Sound};
+ghost use Rattle.om_world.specs.declared.entry.Entry.{Entry};
+ghost use Rattle.om_world.specs.steps.Restarting.{CanRestart};
+ghost use Rattle.om_world.specs.steps.Sound.{HasShape};
 
 use crate::remembered::Remembered;
+use crate::since::Since;
 use crate::stopping::stores_of;
 use om_interval::Pid;
 use om_manager::{Manager, Output};
@@ -27,6 +31,9 @@ pub struct Stopped<S: Stable> {
     pub(crate) members: Vec<Member<S>>,
     // By process, what was released.
     pub(crate) released: Vec<Vec<Output>>,
+    // Whether each process knew the last finished round, and whether one had stored since.
+    pub(crate) current: bool,
+    pub(crate) since: Since,
     // What clauses alone know: what was received, the manager, and what the stores were before the start.
     pub(crate) live: Remembered,
     pub(crate) manager: Snapshot<Manager>,
@@ -36,7 +43,7 @@ pub struct Stopped<S: Stable> {
 impl<S: Stable> Model for Stopped<S> {
     ghost use Rattle.std.specs.Prelude.{[], map};
     ghost use Rattle.om_world.specs.World.{WorldState, program_of};
-    ghost use Rattle.om_world.specs.steps.Codes.{coded_health};
+    ghost use Rattle.om_world.specs.steps.Codes.{coded_health, coded_since};
     ghost use Rattle.om_world.specs.steps.Members.{health_of, seen, sound_in};
     ghost use Rattle.om_world.specs.steps.Stopping.{IsStopped};
     ghost use Rattle.om_stable.specs.steps.Codes.{content_code};
@@ -45,14 +52,14 @@ impl<S: Stable> Model for Stopped<S> {
 
     ghost Value = { WorldState };
 
-    ghost coded = { Prim.hlevel (codes, coded_health, content_code, coded_manager) };
+    ghost coded = { Prim.hlevel (codes, coded_health, coded_since, content_code, coded_manager) };
 
     ghost view = { λ l. seen S.content (health_of S.is_clean S.failed) (map program_of l.images.items) l.live.entries
-        [] l.members.items l.manager.value (map S.content l.origins.value.items) };
+        [] l.members.items l.manager.value (record { origins = map S.content l.origins.value.items; since = l.since }) };
 
-    ghost invariant = { λ l. IsStopped (sound_in S.IsSound) l.members.items l.released.items
+    ghost invariant = { λ l. IsStopped (sound_in S.IsSound) l.members.items l.released.items l.current
         (seen S.content (health_of S.is_clean S.failed) (map program_of l.images.items) l.live.entries [] l.members.items
-        l.manager.value (map S.content l.origins.value.items)) };
+        l.manager.value (record { origins = map S.content l.origins.value.items; since = l.since })) };
 }
 
 impl<S: Stable> Stopped<S> {
@@ -68,7 +75,7 @@ impl<S: Stable> Stopped<S> {
     // What holds of what is left of a world, by its type.
     pub(crate) fn told(&self)
         ensures shape { HasShape self.now }
-        ensures stands { IsKnown self.now → Sound self.now }
+        ensures stands { IsKnown self.now → (run : List Entry) → IsLeft self.now run → CanRestart (along self.now run) }
     {
         let _ = &self.images;
     }

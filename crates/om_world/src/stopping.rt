@@ -1,11 +1,12 @@
 //! The end of a world.
 
-ghost use Rattle.std.specs.Prelude.{◌≡◌, ◌<◌, IfOk, length, map};
+ghost use Rattle.std.specs.Prelude.{◌≡◌, ◌<◌, IfOk, List, length, map};
 ghost use Rattle.om_manager.specs.Outputs.{AreNumbered, held_of};
 ghost use Rattle.om_manager.specs.State.{process_count, released_by as held_within};
 ghost use Rattle.om_world.specs.Disk.{IsOnDisk, IsSettled};
-ghost use Rattle.om_world.specs.Stopped.{AreCurrent, stopped};
+ghost use Rattle.om_world.specs.Stopped.{AreCurrent, IsLeft, along, stopped};
 ghost use Rattle.om_world.specs.World.{IsKnown};
+ghost use Rattle.om_world.specs.declared.entry.Entry.{Entry};
 ghost use Rattle.om_world.specs.steps.Members.{store_in};
 ghost use Rattle.om_world.specs.steps.Stopping.{AreReleasedBy, halted};
 
@@ -92,20 +93,24 @@ fn released_by(alloc: Global, manager: &Manager) -> Result<Vec<Vec<Output>>, All
 
 impl<S: Stable> World<S> {
     /// Ends the world: of all that ran only the stores are left, and what was released. Where each process is up or knows the last
-    /// finished round, what stands in the stores is true of what was received, and serves what was recovered. Refused for memory, the
-    /// stores are dropped as they are.
+    /// finished round, what stands in the stores is true of what was received, and serves what was recovered; and where none has stored
+    /// since that round, of what had been received when it finished. Refused for memory, the stores are dropped as they are.
     pub fn stop(self, alloc: Global) -> Result<Stopped<S>, AllocError>
         ensures left { IfOk result (λ left. left ≡ stopped self) }
         ensures current { AreCurrent self → IfOk result AreCurrent }
+        ensures whole { (run : List Entry) → IsLeft self run → IfOk result (λ left. IsLeft left run) }
         ensures disk { IfOk result (λ left. IsKnown left → IsSettled self → IsOnDisk left) }
+        ensures between { IfOk result (λ left. IsKnown left → (run : List Entry) → IsLeft left run → IsOnDisk (along left run)) }
     {
         let released = released_by(alloc, &self.manager)?;
         let live = Remembered::all(&self.live);
         let manager = Snapshot::of(&self.manager);
+        let current = self.is_current();
         let World {
             images,
             mut members,
             origins,
+            since,
             ..
         } = self;
         end_all(&mut members);
@@ -113,6 +118,8 @@ impl<S: Stable> World<S> {
             images,
             members,
             released,
+            current,
+            since,
             live,
             manager,
             origins,

@@ -1,6 +1,6 @@
 //! Records that are stored, and rows that are noted.
 
-ghost use Rattle.std.specs.Prelude.{ℕ, ◌≡◌, ◌≢◌, IfOk, OnErr, Result, Err, Ok};
+ghost use Rattle.std.specs.Prelude.{ℕ, ◌≡◌, ◌≢◌, IfOk, OnErr, OnOk, Result, Err, Ok, true};
 ghost use Rattle.om_world.specs.Changes.{IsUp};
 ghost use Rattle.om_stable.specs.declared.error.StoreError.{StoreError};
 ghost use Rattle.om_world.specs.Happened.{Happened};
@@ -43,15 +43,19 @@ impl<S: Stable> World<S> {
         requires { IsUp self.old p }
         ensures called { (answer : Result (Unit {0}) StoreError) × HasCalled kind self.old p answer self.new
             × (result ≡ told_of refusal_of_store (Ok answer)) }
+        ensures stored { OnOk result (self.new.since.stored ≡ true) }
         ensures faultless { ((store : S) → S.failed store ≡ 0) → result ≢ Err Refusal.Fault }
     {
         let member = &mut self.members[p];
-        told_stored(member.store(alloc, kind))
+        let told = told_stored(member.store(alloc, kind));
+        self.since.note_stored(&told);
+        told
     }
 
     // Notes the pending rows of a process that is up, and says how many they are.
     pub(crate) fn note(&mut self, alloc: Global, p: usize) -> Result<usize, Refusal>
-        requires { IsUp self.old p }
+        requires up { IsUp self.old p }
+        requires stored { self.old.since.stored ≡ true }
         ensures { (count : ℕ) × (end : Result (Unit {0}) RecordError) × HasTold self.old p count end self.new
             × (result ≡ told_of refusal_of_record (Ok (count_of count end))) }
     {

@@ -1,18 +1,19 @@
 //! Worlds over what is left of worlds that ended.
 
-ghost use Rattle.std.specs.Prelude.{◌≡◌, ◌≢◌, ◌≤◌, ◌<◌, length, false, Err, IfErr, IfOk, IsTrue, OnOk, true};
+ghost use Rattle.std.specs.Prelude.{◌≡◌, ◌≢◌, ◌≤◌, ◌<◌, List, length, cond, false, Err, IfErr, IfOk, IsTrue, OnOk, true};
 ghost use Rattle.om_look.specs.Rows.{AreRowsOf};
 ghost use Rattle.om_look.specs.declared.rows.RowsFault.{RowsFault};
 ghost use Rattle.om_manager.specs.Sound.{IsManager, KeepsReleased};
 ghost use Rattle.om_manager.specs.State.{process_count, released_by};
 ghost use Rattle.om_world.specs.Changes.{HasFailed, NoneFell};
-ghost use Rattle.om_world.specs.Disk.{AreTrue, IsSettled, held_in};
+ghost use Rattle.om_world.specs.Disk.{AreTrue, held_in};
 ghost use Rattle.om_world.specs.Happened.{Happened};
 ghost use Rattle.om_world.specs.Holds.{Holds};
 ghost use Rattle.om_world.specs.Restarted.{HasRestarted, anew};
 ghost use Rattle.om_world.specs.Started.{IsNew};
-ghost use Rattle.om_world.specs.Stopped.{AreCurrent};
+ghost use Rattle.om_world.specs.Stopped.{IsLeft, IsWhole, along};
 ghost use Rattle.om_world.specs.World.{IsKnown, all_clean};
+ghost use Rattle.om_world.specs.declared.entry.Entry.{Entry};
 ghost use Rattle.om_world.specs.declared.event.Answer.TheVariants as answers;
 ghost use Rattle.om_world.specs.declared.event.Event.{Event};
 ghost use Rattle.om_world.specs.declared.event.Refusal.{Refusal};
@@ -20,7 +21,9 @@ ghost use Rattle.om_world.specs.steps.Restarting.{HasRead, HasToldStores, IsAnew
 
 use crate::event::Refusal;
 use crate::receipts::Receipts;
+use crate::remembered::Remembered;
 use crate::restart::put_down;
+use crate::since::Since;
 use crate::start::new_manager;
 use crate::stopped::Stopped;
 use crate::world::World;
@@ -47,8 +50,8 @@ impl<S: Stable> Stopped<S> {
         ensures rows { IsKnown self.new → IfOk result (λ rows. AreRowsOf p (length self.old.programs) (held_in self.old p) rows.items) }
         ensures counted { result ≡ Err RowsFault.Fault → HasFailed self.old p self.new }
         ensures faultless { ((store : S) → S.failed store ≡ 0) → result ≢ Err RowsFault.Fault }
-        ensures stands { IsKnown self.new → IsSettled self.old → AreTrue self.old.programs self.old.live (held_in self.old) }
-        ensures whole { IsKnown self.new → IsSettled self.old → IfErr result (λ fault. refusal_of_rows fault ≢ Refusal.Damaged) }
+        ensures stands { IsKnown self.new → (run : List Entry) → IsLeft self.old run → AreTrue self.old.programs run (held_in self.old) }
+        ensures whole { IsKnown self.new → IsWhole self.old → IfErr result (λ fault. refusal_of_rows fault ≢ Refusal.Damaged) }
     {
         let n = self.size();
         let member = &mut self.members[p];
@@ -64,7 +67,7 @@ impl<S: Stable> Stopped<S> {
         ensures refused { IfErr result IsRefusal }
         ensures counted { result ≡ Err Refusal.Fault → (p : _) × HasFailed self.old p self.new }
         ensures faultless { ((store : S) → S.failed store ≡ 0) → result ≢ Err Refusal.Fault }
-        ensures whole { IsKnown self.new → IsSettled self.old → result ≢ Err Refusal.Damaged }
+        ensures whole { IsKnown self.new → IsWhole self.old → result ≢ Err Refusal.Damaged }
     {
         for p in 0..self.size() {
             let rows = self.rows_at(alloc, p)?;
@@ -105,7 +108,7 @@ impl<S: Stable> Stopped<S> {
         ensures refused { IfErr result IsRefusal }
         ensures counted { result ≡ Err Refusal.Fault → (p : _) × HasFailed self.old p self.new }
         ensures faultless { ((store : S) → S.failed store ≡ 0) → result ≢ Err Refusal.Fault }
-        ensures whole { IsKnown self.new → IsSettled self.old → result ≢ Err Refusal.Damaged }
+        ensures whole { IsKnown self.new → IsWhole self.old → result ≢ Err Refusal.Damaged }
     {
         let n = self.size();
         let mut manager = new_manager(alloc, n)?;
@@ -121,26 +124,42 @@ impl<S: Stable> Stopped<S> {
     // The world over what is left, with this manager.
     fn into_world(self, alloc: Global, manager: Manager) -> World<S>
         requires anew { IsAnew self manager }
-        requires settled { IsSettled self }
-        ensures world { result ≡ record (anew self manager) { live = result.live } }
-        ensures live { IsKnown result → result ≡ anew self manager }
+        requires whole { IsWhole self }
+        ensures { (run : List Entry) × IsLeft self run × (result ≡ record (anew (along self run) manager) { live = result.live })
+            × (IsKnown result → result ≡ anew (along self run) manager) }
     {
         let Stopped {
             images,
             mut members,
+            current,
+            since,
             live,
             origins,
             ..
         } = self;
         put_down(&mut members);
+        let run = run_of(live, since, current);
         World {
             images,
-            live: Receipts::before(alloc, &live, &manager.recovery()),
+            live: Receipts::before(alloc, &run, &manager.recovery()),
             frames: Vec::new(alloc),
             members,
             manager,
             origins,
+            since: Since::at(run),
         }
+    }
+}
+
+// What was received, or what had been before the last finished round.
+fn run_of(live: Remembered, since: Since, current: bool) -> Remembered
+    ensures { result.entries ≡ cond current live.entries since.before }
+{
+    if current {
+        live
+    } else {
+        let Since { before, .. } = since;
+        before
     }
 }
 
@@ -152,7 +171,7 @@ impl<S: Stable> World<S> {
     /// handed back, and nothing of it changes but how its stores stand. Where the stores held nothing before the start and are clean,
     /// nothing is damaged.
     pub fn take_up(alloc: Global, left: Stopped<S>) -> Result<World<S>, NotTakenUp<S>>
-        requires { AreCurrent left }
+        requires { IsWhole left }
         ensures restarted { IfOk result (λ w. IsKnown w → HasRestarted left w) }
         ensures holds { IfOk result (λ w. IsKnown w → Holds w) }
         ensures released { IfOk result (λ w. KeepsReleased left.manager w.manager) }

@@ -12,6 +12,7 @@ use crate::entry::Entry;
 use crate::event::Refusal;
 use crate::process_state::ProcessState;
 use crate::receipts::Receipts;
+use crate::since::Since;
 use om_format::Message;
 use om_interval::Pid;
 use om_manager::Manager;
@@ -32,12 +33,14 @@ pub struct World<S: Stable> {
     pub(crate) manager: Manager,
     // What the stores were before the start.
     pub(crate) origins: Snapshot<Vec<S>>,
+    // The last finished round.
+    pub(crate) since: Since,
 }
 
 impl<S: Stable> Model for World<S> {
     ghost use Rattle.std.specs.Prelude.{map, ◌≡◌, true};
     ghost use Rattle.om_world.specs.World.{WorldState, program_of};
-    ghost use Rattle.om_world.specs.steps.Codes.{coded_health};
+    ghost use Rattle.om_world.specs.steps.Codes.{coded_health, coded_since};
     ghost use Rattle.om_world.specs.steps.Members.{health_of, seen, sound_in};
     ghost use Rattle.om_world.specs.steps.Sound.{IsWorld};
     ghost use Rattle.om_stable.specs.steps.Codes.{content_code};
@@ -46,14 +49,14 @@ impl<S: Stable> Model for World<S> {
 
     ghost Value = { WorldState };
 
-    ghost coded = { Prim.hlevel (codes, coded_health, content_code, coded_manager) };
+    ghost coded = { Prim.hlevel (codes, coded_health, coded_since, content_code, coded_manager) };
 
     ghost view = { λ w. seen S.content (health_of S.is_clean S.failed) (map program_of w.images.items) w.live.entries
-        w.frames.items w.members.items w.manager (map S.content w.origins.value.items) };
+        w.frames.items w.members.items w.manager (record { origins = map S.content w.origins.value.items; since = w.since }) };
 
     ghost invariant = { λ w. IsWorld (sound_in S.IsSound) w.members.items
         (seen S.content (health_of S.is_clean S.failed) (map program_of w.images.items) w.live.entries w.frames.items
-        w.members.items w.manager (map S.content w.origins.value.items)) };
+        w.members.items w.manager (record { origins = map S.content w.origins.value.items; since = w.since })) };
 }
 
 impl<S: Stable> World<S> {

@@ -10,6 +10,9 @@ use std::process::Abort;
 // How often each process runs, sends again, is offered all frames and stores, until nothing more comes.
 const TURNS: usize = 4;
 
+// Behind the return of process 0 in the script with a failure, and behind that of process 1: process 2 is not back.
+static BETWEEN: [usize; 2] = [12, 13];
+
 // More frames than a script makes.
 const FRAMES: usize = 64;
 
@@ -96,7 +99,7 @@ fn wanted(rt: &impl Abort, alloc: Global, script: &[Event]) -> Vec<u8> {
 }
 
 // A restart leaves all that was released, and in the end the same is released as without one. Returns whether it was refused first,
-// since not all knew the last round.
+// since not all knew the last round and one had stored.
 fn loses_nothing(
     rt: &impl Abort,
     alloc: Global,
@@ -120,21 +123,40 @@ fn loses_nothing(
     is_unsettled
 }
 
-// Between the finish of the round and the last return nobody starts over; at each other point all that was released stays, each
-// process comes back, and in the end the same is released as without a stop.
+// At each point all that was released stays, each process comes back, and in the end the same is released as without a stop; between the
+// finish of the round and the last return too, where nobody stores.
 #[test]
 fn a_restart_at_each_point_loses_nothing(rt: HostRuntime) {
     let alloc = rt.alloc();
     let whole = wanted(&rt, alloc, &RUN_WITH_A_FAILURE);
     assert_eq!(&rt; whole.is_empty(), false);
-    let mut unsettled: usize = 0;
     for count in 0..POINTS {
         let mut world = begun(&rt, alloc, &RUN_WITH_A_FAILURE, count);
-        if loses_nothing(&rt, alloc, &mut world, &whole) {
-            unsettled = unsettled.saturating_add(1);
-        }
+        let is_unsettled = loses_nothing(&rt, alloc, &mut world, &whole);
+        assert!(&rt; !is_unsettled);
     }
-    assert_eq!(&rt; unsettled, 3);
+}
+
+// The round of the script is finished, and not all are back: all starts over, twice; and not where one has stored since, until all are
+// back.
+#[test]
+fn a_restart_before_the_last_return_wants_nothing_stored(rt: HostRuntime) {
+    let alloc = rt.alloc();
+    let whole = wanted(&rt, alloc, &RUN_WITH_A_FAILURE);
+    for count in BETWEEN {
+        let mut world = begun(&rt, alloc, &RUN_WITH_A_FAILURE, count);
+        let first = play(&rt, alloc, &mut world, Event::Restart);
+        assert_eq!(&rt; first, Answer::Restarted);
+        let is_unsettled = loses_nothing(&rt, alloc, &mut world, &whole);
+        assert!(&rt; !is_unsettled);
+        let mut world = begun(&rt, alloc, &RUN_WITH_A_FAILURE, count);
+        assert!(&rt; world.is_settled());
+        let stored = play(&rt, alloc, &mut world, Event::Checkpoint { process: 0 });
+        assert_eq!(&rt; stored, Answer::Noted(1));
+        assert!(&rt; !world.is_settled());
+        let is_unsettled = loses_nothing(&rt, alloc, &mut world, &whole);
+        assert!(&rt; is_unsettled);
+    }
 }
 
 // The event that a number stands for: of thirty-six, nine run, nine are offers, and six store.
@@ -176,19 +198,17 @@ fn drawn(rt: &impl Abort, alloc: Global, seed: u64) -> Vec<Event> {
 #[test]
 fn a_restart_in_a_drawn_script_loses_nothing(rt: HostRuntime) {
     let alloc = rt.alloc();
-    let mut unsettled: usize = 0;
     for seed in &SEEDS {
         let script = drawn(&rt, alloc, *seed);
         let whole = wanted(&rt, alloc, &script);
         assert_eq!(&rt; whole.is_empty(), false);
         for count in 0..DRAWN + 1 {
             let mut world = begun(&rt, alloc, &script, count);
-            if loses_nothing(&rt, alloc, &mut world, &whole) {
-                unsettled = unsettled.saturating_add(1);
-            }
+            let is_settled = world.is_settled();
+            let is_unsettled = loses_nothing(&rt, alloc, &mut world, &whole);
+            assert_eq!(&rt; is_unsettled, !is_settled);
         }
     }
-    assert!(&rt; 0 < unsettled);
 }
 
 // Ends the world, and takes up what is left: all that was recovered and released is there, and nothing is received since.
@@ -216,7 +236,9 @@ fn two_stops_lose_nothing(
     whole: &[u8],
 ) {
     let mut world = begun(rt, alloc, script, count);
-    settle(rt, alloc, &mut world);
+    if !world.is_settled() {
+        settle(rt, alloc, &mut world);
+    }
     let mut world = taken_up(rt, alloc, world);
     resume_all(rt, alloc, &mut world);
     for event in script.get(count..).unwrap_or(&[]) {
