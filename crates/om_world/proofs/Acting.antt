@@ -48,7 +48,7 @@ module _ {S : Type 0} (content : S → Content) (is_clean : S → Bool) (failed 
     stored : (a : Result (Unit {0}) StoreError) × (r ≡ Ok a) × HasStored content failed is_clean IsSound kind m a n
     stored = was_up r (λ a. HasStored content failed is_clean IsSound kind m a n) m.standing (is_up content (health_of is_clean failed) IsSound P L F ms M O p m at v e up) did not
 
-    stored_in : (a : Result (Unit {0}) StoreError) → HasStored content failed is_clean IsSound kind m a n → IsCalledIn (content_in content) (health_in (health_of is_clean failed)) (sound_in IsSound) kind (map core_in ms) p a ms (set ms p n) (map core_in (set ms p n))
+    abbrev stored_in : (a : Result (Unit {0}) StoreError) → HasStored content failed is_clean IsSound kind m a n → IsCalledIn (content_in content) (health_in (health_of is_clean failed)) (sound_in IsSound) kind (map core_in ms) p a ms (set ms p n) (map core_in (set ms p n))
     stored_in a h = (
       h.core,
       core_was content (health_of is_clean failed) IsSound P L F ms M O p m at n h.core h.up,

@@ -17,8 +17,11 @@ use Rattle.om_world.specs.steps.Moves.{AreTold, rows_of}
 use Rattle.om_world.proofs.Between.{stored_apart}
 
 -- ---- as the process is asked
+counted : (n : ℕ) → n ≡ 0 → (n == 0) ≡ true
+counted n is = grind (arith, nat_tests)
+
 rows_counted : (rows : List PendingRow) → has_rows rows ≡ not (length rows == 0)
-rows_counted [] = refl
+rows_counted [] = sym (ap not (counted 0 refl))
 rows_counted (r ∷ rows) = let some : (length (r ∷ rows) == 0) ≡ false = grind (arith, nat_tests) in sym (ap not some)
 
 pub rows_there : (o : Option CoreState) (c : CoreState) → o ≡ Some c → rows_of o ≡ not (length c.pending == 0)
