@@ -9,6 +9,7 @@ pub mod Lists
 pub mod Moved
 pub mod NotRunning
 pub mod Noting
+pub mod Pending
 pub mod Ordered
 pub mod Playing
 pub mod Raising

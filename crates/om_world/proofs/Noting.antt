@@ -18,10 +18,10 @@ use Rattle.om_recover.specs.declared.row.RowKind.TheVariants.{Checkpoint, Log}
 use Rattle.om_manager.specs.State.{ManagerState}
 use Rattle.om_manager.specs.declared.answers.RecordError.{RecordError}
 use Rattle.om_manager.specs.declared.answers.RecordError.TheVariants.{Refused}
-use Rattle.om_world.specs.Changes.{IsUp, row_for, stored, has_stored}
+use Rattle.om_world.specs.Changes.{IsUp, row_for, stored, has_rows, has_stored}
 use Rattle.om_world.specs.World.{Health, WorldState, IsKnown, all_clean, SinceState}
 use Rattle.om_world.specs.steps.Past.{Past, past_of, history}
-use Rattle.om_world.specs.steps.Moves.{AreTold, Gained, IsCalled, IsTold, IsToldUpTo, HasCalled, HasTold, IsOfLog, after_store, since_called}
+use Rattle.om_world.specs.steps.Moves.{AreTold, Gained, IsCalled, IsTold, IsToldUpTo, HasCalled, HasTold, IsOfLog, TellsStored, after_store, since_called}
 use Rattle.om_world.specs.steps.Sound.{HasBytes, HasShape, IsOld, IsPending, IsWorld, Sound, kind_of, IsBetween, before_of}
 use Rattle.om_world.proofs.FailureCounts.{called_counts, counted}
 use Rattle.om_world.proofs.Gaining.{sound_store, sound_clean}
@@ -29,6 +29,7 @@ use Rattle.om_world.proofs.Giving.{given_at}
 use Rattle.om_world.proofs.Kept.{remade, shape_core, shape_same, sound_core}
 use Rattle.om_world.proofs.Lists.{clean_before, inside, length-map, map_at, map_set, none_in, once, same_map, sound_at, sound_set, there}
 use Rattle.om_world.proofs.Ordered.{notes_refused}
+use Rattle.om_world.proofs.Pending.{gained_nothing, not_so, same_manager, stored_if}
 use Rattle.om_world.proofs.Raising.{GoesOn, sound_manager}
 use Rattle.om_take_up.proofs.RowsLemmas.{told_rows}
 use Rattle.om_world.proofs.Telling.{told_goes_on, told_outputs}
@@ -128,7 +129,7 @@ known_after w p count end m c h s up at t =
     let all = all_told w m c.round p store.0 (take count c.pending) h s store.1 (λ i row f. r.pending i row (at_take c.pending count i row f)) t.told in
     (all.0, all.1, all.2, λ i row f. (store.0, all.3 row (r.pending i row f)))
 
-pub after_note : {S : Type 0} (IsSound : S → Type 0) (xs : List S) (w : WorldState) (p count : ℕ) (end : Result (Unit {0}) RecordError) (m : ManagerState) (cs : List (Option CoreState)) → IsWorld IsSound xs w → IsUp w p → w.since.stored ≡ true → IsNotedIn w p count end m cs
+pub after_note : {S : Type 0} (IsSound : S → Type 0) (xs : List S) (w : WorldState) (p count : ℕ) (end : Result (Unit {0}) RecordError) (m : ManagerState) (cs : List (Option CoreState)) → IsWorld IsSound xs w → IsUp w p → TellsStored w p → IsNotedIn w p count end m cs
     → IsWorld IsSound xs (remade w w.live w.frames cs m w.contents w.health)
 after_note IsSound xs w p count end m cs i up since n =
     let c = n.0 in let at = n.1 in let t = n.2 in
@@ -142,7 +143,9 @@ after_note IsSound xs w p count end m cs i up since n =
             sound_core (with_m w m) p c d k.1 at (λ held r. record { state = r.state; kept = r.kept; log = r.log; pending = λ j row f. r.pending (count + j) row (at_drop c.pending count j row f); above = record { receipts = r.above.receipts; checkpoints = r.above.checkpoints } })
                 (λ u. record { round = u.round; starts = u.starts; inc = u.inc; away = u.away }) refl refl,
           );
-      between = λ all free. absurd (stored_apart w.since.stored since free);
+      between = λ all free.
+          let none = not_so (has_rows c.pending) w.since.stored (since.tells c at) free in
+          subst (λ k. IsBetween (before_of (with_m w k)) w.live w.contents) (sym (same_manager c.pending count c.round p w.manager m none t.told)) (i.between all free);
     })
 
 refused_memory : (w : WorldState) (p count : ℕ) (end : Result (Unit {0}) RecordError) (m : ManagerState) (c : CoreState) → HasShape w → Sound w → IsUp w p → slice_get w.cores p ≡ Some (Some c) → IsToldUpTo w.manager c.round p c.pending count end m → IfErr end (λ fault. fault ≡ Refused Memory)
@@ -176,20 +179,28 @@ has_told IsSound xs w p count end m cs i up n = record {
 
 -- ---- a store that was called
 -- the world once it is kept that a process has stored
-abbrev pub with_since : Result (Unit {0}) StoreError → WorldState → WorldState
-with_since answer w = record w { since = since_called answer w.since }
+abbrev pub with_since : Batch → CoreState → Result (Unit {0}) StoreError → WorldState → WorldState
+with_since kind c answer w = record w { since = since_called kind c answer w.since }
 
-pub world_since : {S : Type 0} (IsSound : S → Type 0) (xs : List S) (w : WorldState) (answer : Result (Unit {0}) StoreError) → IsWorld IsSound xs w → IsWorld IsSound xs (with_since answer w)
-world_since IsSound xs w (Ok done) i = record {
-  shape = shape_since w (has_stored w.since) i.shape;
-  clean = λ known. let s = i.clean known in (s.0, sound_since w (has_stored w.since) s.1);
+world_stored : {S : Type 0} (IsSound : S → Type 0) (xs : List S) (w : WorldState) (b : Bool) → IsWorld IsSound xs w → IsWorld IsSound xs (record w { since = has_stored b w.since })
+world_stored IsSound xs w true i = record {
+  shape = shape_since w (has_stored true w.since) i.shape;
+  clean = λ known. let s = i.clean known in (s.0, sound_since w (has_stored true w.since) s.1);
   between = λ known free. absurd (stored_apart true refl free);
 }
-world_since IsSound xs w (Err why) i = i
+world_stored IsSound xs w false i = i
 
-pub stored_since : (answer : Result (Unit {0}) StoreError) (since : SinceState) → OnOk answer ((since_called answer since).stored ≡ true)
-stored_since (Ok done) since = refl
-stored_since (Err why) since = tt
+pub world_since : {S : Type 0} (IsSound : S → Type 0) (xs : List S) (w : WorldState) (kind : Batch) (c : CoreState) (answer : Result (Unit {0}) StoreError) → IsWorld IsSound xs w → IsWorld IsSound xs (with_since kind c answer w)
+world_since IsSound xs w kind c (Ok done) i = world_stored IsSound xs w (has_rows (stored kind c).pending) i
+world_since IsSound xs w kind c (Err why) i = i
+
+-- where rows of the process are pending once it has stored, it is kept that one has
+abbrev pub KeepsStored : Batch → List (Option CoreState) → ℕ → SinceState → Result (Unit {0}) StoreError → Type 0
+KeepsStored kind cs p since answer = OnOk answer ((c : CoreState) → slice_get cs p ≡ Some (Some c) → has_rows (stored kind c).pending ≡ true → since.stored ≡ true)
+
+pub stored_since : (kind : Batch) (cs : List (Option CoreState)) (p : ℕ) (c : CoreState) → slice_get cs p ≡ Some (Some c) → (answer : Result (Unit {0}) StoreError) (since : SinceState) → KeepsStored kind cs p (since_called kind c answer since) answer
+stored_since kind cs p c at (Ok done) since = λ d is rows. stored_if (has_rows (stored kind c).pending) since (ap (λ x. has_rows (stored kind x).pending) (once c d (once (Some c) (Some d) (sym at ∙ is))) ∙ rows)
+stored_since kind cs p c at (Err why) since = tt
 
 abbrev pub IsCalledIn : {S : Type 0} → (S → Content) → (S → Health) → (S → Type 0) → Batch → List (Option CoreState) → ℕ → Result (Unit {0}) StoreError → List S → List S → List (Option CoreState) → Type 0
 IsCalledIn content health IsSound kind cores p answer xs ys cs = (c : CoreState) × (slice_get cores p ≡ Some (Some c)) × (cs ≡ set cores p (Some (after_store kind c answer))) × IsCalled content health IsSound (answer ≡ Err Fault) xs ys p (Gained kind c answer)
@@ -203,7 +214,7 @@ same_stored (batches.First k) c = (refl, refl)
 same_stored batches.Checkpoint c = (refl, refl)
 
 pub after_called : {S : Type 0} (content : S → Content) (health : S → Health) (IsSound : S → Type 0) (kind : Batch) (w : WorldState) (p : ℕ) (answer : Result (Unit {0}) StoreError) (xs ys : List S) (cs : List (Option CoreState))
-    → IsWorld IsSound xs (over content health w xs w.cores) → IsUp w p → OnOk answer (w.since.stored ≡ true) → IsCalledIn content health IsSound kind w.cores p answer xs ys cs → IsWorld IsSound ys (over content health w ys cs)
+    → IsWorld IsSound xs (over content health w xs w.cores) → IsUp w p → KeepsStored kind w.cores p w.since answer → IsCalledIn content health IsSound kind w.cores p answer xs ys cs → IsWorld IsSound ys (over content health w ys cs)
 after_called content health IsSound kind w p (Ok done) xs ys cs i up since n =
     let c = n.0 in let at = n.1 in let k = n.3 in
     let same = same_stored kind c in
@@ -218,7 +229,12 @@ after_called content health IsSound kind w p (Ok done) xs ys cs i up since n =
             subst (λ l. Sound (remade w w.live w.frames (set w.cores p (Some (stored kind c))) w.manager l (map health (set xs p k.after)))) (map_set content xs p k.after)
                 (sound_store kind (over content health w xs w.cores) p (content k.before) (content k.after) c (map health (set xs p k.after)) i.shape s.1 at (map_at content xs p k.before k.there) (inl up) (k.did before.1 was)),
           );
-      between = λ all free. absurd (stored_apart w.since.stored since free);
+      between = λ all free.
+          let before = clean_before health xs p k.before k.after k.there k.clean all.1 in
+          let s = i.clean (all.0, before.0) in
+          let was = sound_at IsSound xs p k.before s.0 k.there in
+          let none = not_so (has_rows (stored kind c).pending) w.since.stored (since c at) free in
+          subst (IsBetween (before_of w) w.live) (same_map content xs p k.before k.after k.there (gained_nothing kind c (content k.before) (content k.after) none (k.did before.1 was))) (i.between (all.0, before.0) free);
     }))
 after_called content health IsSound kind w p (Err why) xs ys cs i up since n =
     let c = n.0 in let at = n.1 in let k = n.3 in
@@ -248,11 +264,11 @@ after_called content health IsSound kind w p (Err why) xs ys cs i up since n =
 
 -- what the call did, as the world is told it
 pub has_called : {S : Type 0} (content : S → Content) (health : S → Health) (IsSound : S → Type 0) (kind : Batch) (w : WorldState) (p : ℕ) (answer : Result (Unit {0}) StoreError) (xs ys : List S) (cs : List (Option CoreState))
-    → IsWorld IsSound xs (over content health w xs w.cores) → IsUp w p → IsCalledIn content health IsSound kind w.cores p answer xs ys cs → HasCalled kind (over content health w xs w.cores) p answer (with_since answer (over content health w ys cs))
+    → IsWorld IsSound xs (over content health w xs w.cores) → IsUp w p → (n : IsCalledIn content health IsSound kind w.cores p answer xs ys cs) → HasCalled kind (over content health w xs w.cores) p answer (with_since kind n.0 answer (over content health w ys cs))
 has_called content health IsSound kind w p answer xs ys cs i up n = record {
   core = n.0;
   there = n.1;
-  others = ap (λ l. with_since answer (over content health w ys l)) n.2;
+  others = ap (λ l. with_since kind n.0 answer (over content health w ys l)) n.2;
   since = refl;
   did = λ all. let d = done all in (content n.3.before, content n.3.after, d.0, d.1, d.2);
   was_clean = λ all. let k = n.3 in (clean_before health xs p k.before k.after k.there k.clean (subst (λ zs. all_clean (map health zs) ≡ true) k.stores all)).0;

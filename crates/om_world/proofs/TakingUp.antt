@@ -14,7 +14,6 @@ use Rattle.om_world.specs.Restarted.{anew}
 use Rattle.om_world.specs.World.{Health, IsKnown, SinceState, WorldState, recovered}
 use Rattle.om_world.specs.steps.Members.{Besides, downed, seen, sound_in}
 use Rattle.om_world.specs.steps.Moves.{Keeps}
-use Rattle.om_world.specs.steps.Remembered.{fitting}
 use Rattle.om_world.specs.steps.Restarting.{HasRead, IsAnew, begun_live}
 use Rattle.om_world.specs.steps.Sound.{HasShape, IsBetween, IsWorld, Sound, before_of}
 use Rattle.om_manager.specs.declared.output_log.Output.{Output}

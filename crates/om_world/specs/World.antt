@@ -18,7 +18,7 @@ pub record Health : Type 0 where
   pub failed : ℕ
 
 -- what is kept of the last finished round, or of the start: what had been received, before the round cut it; and whether a process
--- has flushed, made a checkpoint or joined since, so that its store may hold more
+-- has stored a record since
 pub record SinceState : Type 0 where
   pub before : List Entry
   pub stored : Bool

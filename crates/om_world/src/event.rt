@@ -109,8 +109,8 @@ pub enum Refusal {
     Damaged,
     /// Memory ran out.
     Memory,
-    /// A process does not know the last finished round, as it is not up again since; and one has flushed, made a checkpoint or joined
-    /// since, so that the stores may not be of one run.
+    /// A process does not know the last finished round, as it is not up again since; and one has stored a record since, so that
+    /// the stores may not be of one run.
     Unsettled,
 }
 

@@ -51,11 +51,11 @@ impl Since {
         self.stored
     }
 
-    // A store was called, and may hold more.
-    pub(crate) fn note_stored(&mut self, told: &Result<(), Refusal>)
-        ensures { self.new ≡ since_told told.now self.old }
+    // A store was called, and rows are pending behind it or not: where none is, it holds no more than before.
+    pub(crate) fn note_stored(&mut self, told: &Result<(), Refusal>, has_rows: bool)
+        ensures { self.new ≡ since_told has_rows told.now self.old }
     {
-        if told.is_ok() {
+        if told.is_ok() && has_rows {
             self.stored = true;
         }
     }

@@ -162,6 +162,19 @@ fn a_restart_before_the_last_return_wants_nothing_stored(rt: HostRuntime) {
     assert!(&rt; is_unsettled);
 }
 
+// One that is back stores what it has not: nothing stands on a disk that did not before, and all starts over.
+#[test]
+fn a_flush_of_nothing_before_the_last_return_stores_nothing(rt: HostRuntime) {
+    let alloc = rt.alloc();
+    let whole = wanted(&rt, alloc, &RUN_WITH_A_FAILURE);
+    let mut world = begun(&rt, alloc, &RUN_WITH_A_FAILURE, LAST_BETWEEN);
+    let stored = play(&rt, alloc, &mut world, Event::Flush { process: 1 });
+    assert_eq!(&rt; stored, Answer::Noted(0));
+    assert!(&rt; world.is_settled());
+    let is_unsettled = loses_nothing(&rt, alloc, &mut world, &whole);
+    assert!(&rt; !is_unsettled);
+}
+
 // The event that a number stands for: of thirty-six, nine run, nine are offers, and six store.
 fn event_of(draw: u64) -> Event {
     let process = (draw % 3) as usize;

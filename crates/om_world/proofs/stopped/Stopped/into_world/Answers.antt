@@ -1,8 +1,7 @@
-use Rattle.std.proofs.Common.{◌≡◌, ◌∙◌, ap, subst, sym}
-use Rattle.std.specs.Prelude.{cond, slice_index}
+use Rattle.std.proofs.Common.{◌∙◌, ap}
+use Rattle.std.specs.Prelude.{slice_index}
 use Rattle.om_world.specs.Live.{cut_list}
-use Rattle.om_world.specs.Stopped.{IsLeft, IsWhole}
-use Rattle.om_world.specs.World.{WorldState, recovered}
+use Rattle.om_world.specs.World.{recovered}
 use Rattle.om_world.specs.steps.Members.{health_of}
 use Rattle.om_world.specs.steps.Remembered.{fitting}
 use Rattle.om_world.proofs.Remembering.{fitting_same}

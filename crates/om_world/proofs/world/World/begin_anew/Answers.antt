@@ -2,7 +2,6 @@ use Rattle.std.proofs.Common.{◌∙◌, ap, subst, sym}
 use Rattle.std.specs.Prelude.{cond, slice_index}
 use Rattle.om_world.specs.Restarted.{anew}
 use Rattle.om_world.specs.Stopped.{IsLeft, along}
-use Rattle.om_world.specs.World.{IsKnown, WorldState}
 use Rattle.om_world.specs.steps.Members.{health_of}
 use Rattle.om_world.specs.steps.Restarting.{begun_live, left_run}
 use Rattle.om_world.proofs.TakingUp.{after_taken, begun_so, was_taken, was_taken_whole}

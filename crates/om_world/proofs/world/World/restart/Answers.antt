@@ -1,7 +1,6 @@
 use Rattle.std.proofs.Common.{◌∙◌, ap, subst, sym}
 use Rattle.om_world.specs.Restarted.{anew}
 use Rattle.om_world.specs.Stopped.{IsLeft, along}
-use Rattle.om_world.specs.World.{WorldState}
 use Rattle.om_world.specs.steps.Restarting.{left_run}
 use Rattle.om_world.proofs.Reading.{left_after}
 use Rattle.om_world.proofs.Restarted.{restart_happened, same_run}
