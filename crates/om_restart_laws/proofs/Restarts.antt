@@ -1,5 +1,5 @@
 -- The event of a restart is a start over what the world left.
-use Rattle.std.proofs.Common.{ℕ, List, [], refl, sym, ap, ◌∙◌, subst, arith}
+use Rattle.std.proofs.Common.{◌≡◌, ℕ, ◌<◌, ◌≤◌, List, [], ◌∷◌, ◌++◌, refl, sym, ap, ◌∙◌, subst, arith}
 use Rattle.std.proofs.lemmas.List.{append-nil}
 use Rattle.om_interval.specs.Vectors.{IsBelow}
 use Rattle.om_world.specs.Disk.{IsOnDisk}
