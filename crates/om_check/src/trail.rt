@@ -74,7 +74,7 @@ impl Trail {
     fn is_of(&self, from: Pid, to: Pid) -> Result<(), PlayFault>
         ensures { OnOk result ((e : Entry) × IsLast self.now.stage.world.live e × (e.from ≡ from) × (e.to ≡ to)) }
     {
-        match self.stage.world.live().last() {
+        match self.stage.world.last_received() {
             Some(entry) if entry.from == from && entry.to == to => Ok(()),
             _ => Err(PlayFault::NotSent(to)),
         }

@@ -95,7 +95,7 @@ proc c inc 0 interval 0 ready
 ",
     ),
     (
-        "run 0 100\nrun 1 100\nrun 2 100\ngive 1 0\nflush 1\nrestart\nrestart\nresume 0\nresume 1\nresume 2\nresume 2\nrestart\n",
+        "run 0 100\nrun 1 100\nrun 2 100\ngive 1 0\nflush 1\nrestart\nrestart\nresume 1\ncheckpoint 1\nrestart\nresume 0\nresume 2\nresume 2\nrestart\n",
         Writes,
         "\
 ran 3 waiting sent 0 made 0
@@ -104,9 +104,11 @@ ran 5 ended 0 sent 1 made 0
 taken 1
 noted 1
 restarted 0 1 0
+restarted 0 1 0
+back 1 inc 1
+noted 1
 unsettled
 back 0 inc 1
-back 1 inc 1
 back 0 inc 1
 not-in
 restarted 0 1 0

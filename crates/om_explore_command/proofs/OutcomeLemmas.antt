@@ -11,7 +11,7 @@ use Rattle.om_manager.specs.declared.output_log.Output.{Output}
 use Rattle.om_process.specs.Process.{Program}
 use Rattle.om_process.specs.declared.status.Status.{Status}
 use Rattle.om_runner.specs.Released.{AreReleasedBy}
-use Rattle.om_runner.specs.declared.report.Report.{Report}
+use Rattle.om_report.specs.declared.report.Report.{Report}
 use Rattle.om_scripts.specs.Programs.{Cluster, program_at, programs_of}
 use Rattle.om_world.specs.World.{WorldState}
 use Rattle.om_check.specs.Explored.{EndsIn, IsExplored, LeadTo}

@@ -3,7 +3,7 @@
 use Rattle.std.specs.Prelude.{◌≡◌, ◌≢◌, ℕ, ◌<◌, List, [], Option, None, Some, slice_get, slice_index_or}
 use Rattle.std.specs.Option.{option_map}
 use Rattle.om_manager.specs.Outputs.{HeldOutput}
-use Rattle.om_runner.specs.declared.report.Report.{Report}
+use Rattle.om_report.specs.declared.report.Report.{Report}
 use Rattle.om_run_commands.specs.Run.{outputs_of}
 use Rattle.om_explore_command.specs.declared.difference.TextPosition.{TextPosition}
 use Rattle.om_explore_command.specs.declared.difference.TextPosition.TheVariants.{Output, End}

@@ -6,7 +6,7 @@ use Rattle.om_manager.specs.Outputs.{HeldOutput, held_of}
 use Rattle.om_manager.specs.declared.output_log.Output.{Output}
 use Rattle.om_process.specs.Core.{CoreState}
 use Rattle.om_process.specs.declared.status.Status.{Status}
-use Rattle.om_runner.specs.declared.report.Report.{Report}
+use Rattle.om_report.specs.declared.report.Report.{Report}
 use Rattle.om_scripts.specs.Programs.{Cluster}
 use Rattle.om_world.specs.World.{WorldState}
 use Rattle.om_world.specs.declared.entry.Entry.{Entry}

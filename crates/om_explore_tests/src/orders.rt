@@ -148,7 +148,7 @@ fn add_outputs(bytes: &mut Vec<u8>, outputs: &[Output]) -> Result<(), AllocError
 // From whom process 0 received in a run, in order.
 fn senders(alloc: Global, run: &Explored) -> Result<Vec<u8>, AllocError> {
     let mut senders = Vec::new(alloc);
-    for entry in run.world.live() {
+    for entry in run.world.received() {
         if entry.to == Pid::at(0) {
             senders.push(entry.from.index() as u8)?;
         }
@@ -233,7 +233,7 @@ fn what_happened_is_told(rt: HostRuntime) {
     assert_eq!(&rt; answers.len(), run.events.len());
     let bytes = put_out(alloc, &world).expect(&rt, "memory");
     assert_eq!(&rt; bytes.as_slice(), [2, 1].as_slice());
-    assert_eq!(&rt; world.live().len(), 2);
+    assert_eq!(&rt; world.received().len(), 2);
 }
 
 // Returns what comes of a run, in a word, and of which process.

@@ -222,8 +222,8 @@ fn check_fault(rt: &HostRuntime, stop: &impl Abort, file: &str, words: &str) {
     assert!(stop; told.starts_with(words), "{file}: {told}");
 }
 
-// Makes a database by statements.
-fn make_database(
+/// Makes a database by statements.
+pub fn make_database(
     rt: &HostRuntime,
     stop: &impl Abort,
     folder: &str,

@@ -1,6 +1,7 @@
 //! The files of a cluster.
 
-use crate::connecting::{Connects, refusal_of_opening};
+use crate::connecting::Connects;
+use crate::opening::opened;
 use om_interval::Pid;
 use om_runner::OpenFault;
 use om_store_files::{Note, NotedFile, Notes, connection_options, store_of};
@@ -42,10 +43,7 @@ impl<'a> Connects for Files<'a> {
             log: NotedFile { inner: log, note },
             db: NotedFile { inner: db, note },
         };
-        match Connection::open_files(alloc, pair, options) {
-            Ok(conn) => Ok(conn),
-            Err((error, _)) => Err(refusal_of_opening(&error)),
-        }
+        opened(alloc, pair, options)
     }
 }
 

@@ -5,7 +5,7 @@
 //!
 //! - `connecting`: who opens the databases of a cluster, and the stores that are made in their tables; `resuming`: stores that an
 //!   earlier run may have left
-//! - `files`: the files that are named by a prefix; `blaming`: which file a refused run could not use
+//! - `files`: the files that are named by a prefix; `opening`: how the database in one is opened, or made; `blaming`: which file a refused run could not use
 //! - `copying`: what a file and its log hold, and the database of it, which is only read
 //! - `looking`: the commands `replay` and `show` over a file
 #![tactic(auto)]
@@ -15,6 +15,7 @@ mod connecting;
 mod copying;
 mod files;
 mod looking;
+mod opening;
 mod resuming;
 
 pub use blaming::{Blame, FileFault, fault_of, first_unusable};

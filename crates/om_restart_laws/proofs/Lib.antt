@@ -4,4 +4,5 @@ pub mod Closing
 pub mod Cutting
 pub mod Replaying
 pub mod Restarts
+pub mod Runs
 pub mod Worlds

@@ -1,5 +1,5 @@
 -- What a start comes to over stores alone, whatever left them.
-use Rattle.std.specs.Prelude.{◌≡◌, ℕ, ◌<◌, ◌≤◌, List, [], length, replicate, slice_get, slice_index, slice_index_or, None, Some, true}
+use Rattle.std.specs.Prelude.{◌≡◌, ℕ, ◌<◌, ◌≤◌, List, [], length, replicate, slice_get, slice_index, slice_index_or, None, Some, true, false}
 use Rattle.om_interval.specs.Vectors.{IsBelow}
 use Rattle.om_manager.specs.Outputs.{HeldOutput}
 use Rattle.om_manager.specs.State.{ManagerState, released_by}
@@ -45,6 +45,7 @@ world_over programs live contents m = record {
   contents = contents;
   health = [];
   origins = [];
+  since = record { before = live; stored = false };
 }
 
 -- such a world is a point of a run without failures; nothing is lost that could be served; and just what was put out is released

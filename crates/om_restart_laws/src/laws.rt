@@ -5,7 +5,7 @@ ghost use Rattle.om_format.specs.declared.queue.QueueEntry.{QueueEntry};
 ghost use Rattle.om_interval.specs.Vectors.{IsBelow};
 ghost use Rattle.om_manager.specs.Outputs.{HeldOutput};
 ghost use Rattle.om_look.specs.Rows.{AreRowsOf};
-ghost use Rattle.om_manager.specs.Sound.{IsManager};
+ghost use Rattle.om_manager.specs.Sound.{IsManager, KeepsReleased};
 ghost use Rattle.om_manager.specs.State.{ManagerState, released_by};
 ghost use Rattle.om_member.specs.Handed.{held_as};
 ghost use Rattle.om_process.specs.Claims.{AtInterval, CheckpointOf, Makes, RowOf};
@@ -21,11 +21,14 @@ ghost use Rattle.om_recover.specs.declared.row.Row.{Row};
 ghost use Rattle.om_stable.specs.Content.{Content, kept_by_cut};
 ghost use Rattle.om_world.specs.Live.{Legal, cut_list, program_at, received};
 ghost use Rattle.om_world.specs.declared.entry.Entry.{Entry};
+ghost use Rattle.om_world.specs.Holds.{Holds};
 ghost use Rattle.om_world.specs.Disk.{AreTrue, CanServe, DependsWithin, IsOnDisk, held_in};
 ghost use Rattle.om_world.specs.World.{WorldState};
 ghost use Rattle.om_world.specs.Restarted.{HasRestarted};
+ghost use Rattle.om_world.specs.Stopped.{AreCurrent, along};
 ghost use Rattle.om_restart_laws.specs.Alone.{AreLeft, StandsOver, content_of};
 ghost use Rattle.om_restart_laws.specs.Chains.{GoesOnFrom, IsChain, IsSaid, Start};
+ghost use Rattle.om_restart_laws.specs.Runs.{AreRuns, Stop};
 ghost use Rattle.om_take_up.specs.Anew.{IsNew};
 ghost use Rattle.om_take_up.specs.Orders.{Act, AreOfEach, ComeInTurn, StartsOver};
 ghost use Rattle.om_take_up.specs.TakenUp.{RiseFrom};
@@ -78,10 +81,13 @@ pub fn a_start_goes_on()
         → IsGreatest (length w.programs) rows state → IsTakenUpAt w state }
 {}
 
-/// The event of a restart is such a start: the world behind it stands at the recovery state of its manager, and goes on from there.
+/// The event of a restart is such a start, over the run of which the stores are: the world behind it stands at the recovery state of its
+/// manager, and goes on from there. Where each process knows the last finished round, that run is all that was received.
 pub fn a_restart_is_a_start()
-    ensures at { (old new : WorldState) → IsOnDisk old → HasRestarted old new → IsTakenUpAt old new.manager.recovery }
-    ensures on { (old new : WorldState) → HasRestarted old new → GoesOnFrom old new.manager.recovery new }
+    ensures at { (old new : WorldState) (r : HasRestarted old new) → IsOnDisk (along old r.run)
+        → IsTakenUpAt (along old r.run) new.manager.recovery }
+    ensures on { (old new : WorldState) (r : HasRestarted old new) → GoesOnFrom (along old r.run) new.manager.recovery new }
+    ensures settled { (old new : WorldState) (r : HasRestarted old new) → AreCurrent old → r.run ≡ old.live }
 {}
 
 /// However often it ends and is taken up again, all is one run: what the last world received is a run without failures, along which each
@@ -116,4 +122,12 @@ pub fn a_start_in_any_order()
         → ((p : ℕ) → p < length programs → AreRowsOf p (length programs) (content_of contents p) (rows p))
         → ((p : ℕ) → p < length programs → RiseFrom 0 (outputs p)) → AreOfEach (length programs) rows outputs acts
         → ComeInTurn first acts last → StandsOver programs live state contents (λ p. map held_as (outputs p)) last }
+{}
+
+/// However often a world is played, ends and is taken up again from what it left: behind all of that the last world is a point of a run
+/// without failures, and whatever was released at any time still is, under its number.
+pub fn runs_are_one()
+    ensures holds { (first last : WorldState) (stops : List Stop) → Holds first → AreRuns first stops last → Holds last }
+    ensures released { (first last : WorldState) (stops : List Stop) → AreRuns first stops last
+        → KeepsReleased first.manager last.manager }
 {}

@@ -5,7 +5,7 @@ use Rattle.std.specs.Option.{option_map}
 use Rattle.std.specs.declared.alloc.Global.{Global}
 use Rattle.std.proofs.lemmas.List.{length-map}
 use Rattle.std.proofs.lemmas.Option.{slice_get-map}
-use Rattle.om_runner.specs.declared.report.Report.{Report}
+use Rattle.om_report.specs.declared.report.Report.{Report}
 use Rattle.om_check.specs.Whole.{AreReleasedIn, AreStatusesOf, IsWhole}
 use Rattle.om_check.proofs.Ending.{whole_run}
 use Rattle.om_check.proofs.OneRun.{one_run}

@@ -9,15 +9,15 @@ use Rattle.om_process.specs.Images.{program_of}
 use Rattle.om_process.specs.declared.image.Image.{Image}
 use Rattle.om_process.specs.declared.status.Status.{Status}
 use Rattle.om_scripts.specs.Programs.{Cluster, programs_of}
-use Rattle.om_runner.specs.declared.report.Report.{Report}
+use Rattle.om_report.specs.declared.report.Report.{Report}
 use Rattle.om_runner.specs.Released.{AreAllReleased}
 use Rattle.om_runner.specs.Reports.{AreAlongOf, AreOutputsOf, HaveAllOf}
 use Rattle.om_process.specs.Core.{IsEnd}
 use Rattle.om_runner.specs.Telling.{AreInOrder, AreToldMade, Told, TellsAll}
-use Rattle.om_runner.specs.declared.follower.FollowFault.{FollowFault}
-use Rattle.om_runner.specs.declared.follower.FollowFault.TheVariants.{Run, Unwanted}
-use Rattle.om_runner.specs.declared.fault.RunFault.{RunFault}
-use Rattle.om_runner.specs.declared.fault.RunFault.TheVariants as running
+use Rattle.om_report.specs.declared.follower.FollowFault.{FollowFault}
+use Rattle.om_report.specs.declared.follower.FollowFault.TheVariants.{Run, Unwanted}
+use Rattle.om_report.specs.declared.fault.RunFault.{RunFault}
+use Rattle.om_report.specs.declared.fault.RunFault.TheVariants as running
 use Rattle.om_run_commands.proofs.RunLemmas.{is_report, ok_at}
 use Rattle.om_run_commands.specs.ClusterScript.{ClusterFile, cluster_file_line, no_settings}
 use Rattle.om_commands.specs.Command.{IsErrorOf, IsScript}

@@ -19,13 +19,13 @@ use Rattle.om_process.specs.declared.status.Status.{Status}
 use Rattle.om_process.specs.Core.{IsEnd}
 use Rattle.om_scripts.specs.Named.{place_of}
 use Rattle.om_scripts.specs.Programs.{programs_of}
-use Rattle.om_runner.specs.declared.report.Report.{Report}
+use Rattle.om_report.specs.declared.report.Report.{Report}
 use Rattle.om_runner.specs.Released.{AreAllReleased}
 use Rattle.om_runner.specs.Reports.{AreAlongOf, AreOutputsOf, HaveAllOf}
 use Rattle.om_runner.specs.Telling.{AreInOrder, AreToldMade, Told, TellsAll, of_process, outputs_in, told_of}
-use Rattle.om_runner.specs.declared.follower.FollowFault.{FollowFault}
-use Rattle.om_runner.specs.declared.follower.FollowFault.TheVariants.{Run, Unwanted}
-use Rattle.om_runner.specs.declared.fault.RunFault.{RunFault}
+use Rattle.om_report.specs.declared.follower.FollowFault.{FollowFault}
+use Rattle.om_report.specs.declared.follower.FollowFault.TheVariants.{Run, Unwanted}
+use Rattle.om_report.specs.declared.fault.RunFault.{RunFault}
 use Rattle.om_commands.specs.declared.error.CommandError.{CommandError}
 use Rattle.om_commands.specs.declared.error.CommandError.TheVariants as errors
 use Rattle.om_run_commands.specs.ClusterScript.{ClusterFile}

@@ -15,9 +15,9 @@ use Rattle.om_scripts.specs.Programs.{Cluster, program_at, programs_of}
 use Rattle.om_runner.specs.Released.{AreAllMade, AreAllReleased}
 use Rattle.om_runner.specs.Reports.{AreAlongOf, AreOutputsOf, AreWholeOf, HaveAll, HaveAllOf}
 use Rattle.om_process.specs.Core.{IsEnd}
-use Rattle.om_runner.specs.declared.report.Report.{Report}
-use Rattle.om_runner.specs.declared.fault.RunFault.{RunFault}
-use Rattle.om_runner.specs.declared.fault.RunFault.TheVariants as running
+use Rattle.om_report.specs.declared.report.Report.{Report}
+use Rattle.om_report.specs.declared.fault.RunFault.{RunFault}
+use Rattle.om_report.specs.declared.fault.RunFault.TheVariants as running
 use Rattle.om_run_commands.specs.steps.Errors.{error_of_run}
 use Rattle.om_run_commands.specs.ClusterScript.{ClusterFile, cluster_file_line, no_settings}
 use Rattle.om_commands.specs.Command.{IsScript}

@@ -2,7 +2,7 @@
 use Rattle.std.specs.Prelude.{◌≡◌, ℕ, List, [], ◌++◌, Option, Some, length, slice_index_or}
 use Rattle.std.specs.Io.KnownBytes.{Appends}
 use Rattle.std.specs.List.{flat_map}
-use Rattle.om_runner.specs.declared.report.Report.{Report}
+use Rattle.om_report.specs.declared.report.Report.{Report}
 use Rattle.om_process.specs.declared.status.Status.{Status}
 use Rattle.om_scripts.specs.Named.{place_of}
 use Rattle.om_scripts.specs.Programs.{Cluster, programs_of}

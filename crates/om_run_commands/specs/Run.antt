@@ -7,7 +7,7 @@ use Rattle.om_scripts.specs.Programs.{programs_of}
 use Rattle.om_runner.specs.Released.{AreAllMade, AreAllReleased}
 use Rattle.om_runner.specs.Reports.{HaveAll}
 use Rattle.om_process.specs.Core.{IsEnd}
-use Rattle.om_runner.specs.declared.report.Report.{Report}
+use Rattle.om_report.specs.declared.report.Report.{Report}
 use Rattle.om_commands.specs.Command.{AnswersScript, IsErrorOf, IsScript}
 use Rattle.om_run_commands.specs.ClusterScript.{ClusterFile, cluster_file_line, no_settings}
 use Rattle.om_run_commands.specs.RunText.{TellsEnds, raw_text, run_text_in}

@@ -11,7 +11,7 @@ use Rattle.om_outcomes.specs.declared.failure.Failure.{Failure}
 use Rattle.om_outcomes.specs.declared.failure.Failure.TheVariants as failures
 use Rattle.om_process.specs.Process.{Program}
 use Rattle.om_process.specs.declared.status.Status.{Status}
-use Rattle.om_runner.specs.declared.report.Report.{Report}
+use Rattle.om_report.specs.declared.report.Report.{Report}
 use Rattle.om_run_commands.specs.ClusterScript.{ClusterFile}
 use Rattle.om_run_commands.specs.Follow.{IsFollowedAnswer, IsFollowedRawAnswer}
 use Rattle.om_run_commands.specs.Modes.{IsErrorIn, IsPartIn, IsRunIn}

@@ -5,14 +5,15 @@ use Rattle.std.specs.Option.{option_or}
 use Rattle.std.proofs.lemmas.Option.{get_or_from_slice_get, same_Some, slice_get_within}
 use Rattle.om_process.specs.Images.{program_of}
 use Rattle.om_process.specs.declared.image.Image.{Image}
-use Rattle.om_runner.specs.Reports.{IsFaultOf}
+use Rattle.om_report.specs.Faults.{IsFaultOf, IsFaultBy}
 use Rattle.om_runner.specs.declared.starting.EndOf.{EndOf}
-use Rattle.om_runner.specs.declared.results.Finished.{Finished}
-use Rattle.om_runner.specs.declared.config.Config.{Config}
-use Rattle.om_runner.specs.declared.fault.RunFault.{RunFault}
-use Rattle.om_runner.specs.declared.fault.RunFault.TheVariants.{Turns, GateShut, Memory, Fault, Load, StoreInUse, AnotherCluster, StoreMissing, NoThread}
-use Rattle.om_runner.specs.steps.Ends.{AreBelow, AreOwnEnds, IsEndOf, IsFaultBy, IsFirstOut, IsGiven, IsLeastFault, IsOwnEnd, IsPromised, IsWell, IsWellOrOut}
-use Rattle.om_runner.specs.steps.Network.{Lines}
+use Rattle.om_worker.specs.declared.finished.Finished.{Finished}
+use Rattle.om_worker_parts.specs.declared.config.Config.{Config}
+use Rattle.om_report.specs.declared.fault.RunFault.{RunFault}
+use Rattle.om_report.specs.declared.fault.RunFault.TheVariants.{Turns, GateShut, Memory, Fault, Load, StoreInUse, AnotherCluster, StoreMissing, NoThread}
+use Rattle.om_runner.specs.steps.Ends.{AreBelow, AreOwnEnds, IsFirstOut, IsLeastFault, IsPromised, IsWell, IsWellOrOut}
+use Rattle.om_worker.specs.Ends.{IsEndOf, IsGiven, IsOwnEnd}
+use Rattle.om_worker_parts.specs.Network.{Lines}
 
 below_next : (j k : ℕ) → j < k + 1 → (j < k) ⊎ (j ≡ k)
 below_next zero zero lt = inr refl

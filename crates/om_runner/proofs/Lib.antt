@@ -1,10 +1,4 @@
-mod ReleasedLemmas
-mod HarvestLemmas
-mod LinkLemmas
 mod ReportLemmas
-mod WireLemmas
 mod SettleLemmas
-mod ActLemmas
 mod FaultLemmas
-mod FollowLemmas
-mod StoreLemmas
+mod ToldLemmas

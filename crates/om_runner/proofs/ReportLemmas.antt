@@ -11,21 +11,23 @@ use Rattle.om_board.proofs.ListLemmas.{map_get, map_had, more_had}
 use Rattle.om_manager.specs.declared.output_log.Output.{Output}
 use Rattle.om_process.specs.Process.{Program}
 use Rattle.std.proofs.lemmas.Result.{IfOk-weaker}
-use Rattle.om_runner.specs.Released.{AreAllMade}
-use Rattle.om_runner.specs.Reports.{AreAlongOf, AreAlongOver, AreOutputsOf, AreWholeOf, HaveAllOf, IsLastOn, IsStatusAlong, IsWholeRun}
+use Rattle.om_report.specs.Released.{AreAllMade}
+use Rattle.om_runner.specs.Reports.{AreAlongOf, AreAlongOver, AreOutputsOf, AreWholeOf, HaveAllOf, IsLastOn, IsStatusAlong, AreWholeOver}
+use Rattle.om_node.specs.Ends.{IsWholeRun}
 use Rattle.om_board.specs.Boards.{IsBoard}
 use Rattle.om_board.specs.Fronts.{front_of}
 use Rattle.om_board.specs.declared.front.Front.{Front}
-use Rattle.om_runner.specs.steps.Acts.{UnderLock}
+use Rattle.om_report.specs.Locks.{UnderLock}
 use Rattle.om_process.specs.Core.{IsEnd}
 use Rattle.om_board.specs.Inboxes.{Traffic, Takings}
-use Rattle.om_runner.specs.declared.results.Finished.{Finished}
-use Rattle.om_runner.specs.declared.network.Ends.{Ends}
-use Rattle.om_runner.specs.steps.Ends.{AreEndsOf, AreWholeOver, HaveAllOver, IsEndOf}
-use Rattle.om_runner.specs.steps.Harvests.{AreNoFewer, AreOwn, HarvestState, harvested}
-use Rattle.om_runner.specs.steps.Network.{ArePuts, AreTakes, IsNetwork, Lines}
+use Rattle.om_worker.specs.declared.finished.Finished.{Finished}
+use Rattle.om_worker_parts.specs.declared.network.Ends.{Ends}
+use Rattle.om_runner.specs.steps.Ends.{AreEndsOf, HaveAllOver}
+use Rattle.om_worker.specs.Ends.{IsEndOf}
+use Rattle.om_report.specs.Harvests.{AreNoFewer, AreOwn, HarvestState, harvested}
+use Rattle.om_worker_parts.specs.Network.{ArePuts, AreTakes, IsNetwork, Lines}
 use Rattle.om_runner.specs.steps.Settling.{ArePasses}
-use Rattle.om_runner.specs.steps.Wiring.{HasEnds, IsWired}
+use Rattle.om_worker_parts.specs.Wiring.{HasEnds, IsWired}
 
 -- ---- lists
 pub any_default : {A : Type 0} (xs : List A) (i : ℕ) (d e : A) → i < length xs → get_or xs i d ≡ get_or xs i e
@@ -41,12 +43,6 @@ each_more P xs ys y are each last k h lt = elim (more_had xs k y (get_or ys k h)
   | inl here ↦ subst (P k) (sym here.1) (subst (λ i. P i y) (sym here.0) last)
   | inr there ↦ subst (P k) (get_or_from_slice_get xs k (get_or ys k h) h there) (each k h (slice_get_within xs k (get_or ys k h) there))
 ]
-
--- an element that goes from the front of the rest to the end of what is done
-pub moved : {A B : Type 0} (f : A → B) (done more : List B) (x : A) (rest old : List A) (all : List B) → old ≡ x ∷ rest → more ≡ done ++ f x ∷ []
-    → done ++ map f old ≡ all → more ++ map f rest ≡ all
-moved f done more x rest old all next grown was =
-    ap (λ l. l ++ map f rest) grown ∙ append_assoc done (f x ∷ []) (map f rest) ∙ ap (λ l. done ++ map f l) (sym next) ∙ was
 
 -- ---- ends
 -- where all ended well, each ended so

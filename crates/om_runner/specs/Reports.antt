@@ -1,5 +1,5 @@
 -- What a run of a cluster ends with.
-use Rattle.std.specs.Prelude.{◌≡◌, ℕ, ◌<◌, ◌≤◌, List, Option, None, Some, IfSome, Bool, IsTrue, Vec, slice_get, length, map}
+use Rattle.std.specs.Prelude.{◌≡◌, ℕ, ◌≤◌, List, Some, Bool, IsTrue, Vec, slice_get, length, map}
 use Rattle.std.specs.declared.alloc.Global.{Global}
 pub use Rattle.om_stable.specs.Content.{nothing}
 pub use Rattle.om_node.specs.Ends.{IsWholeRun, outputs_made}
@@ -7,17 +7,13 @@ use Rattle.om_manager.specs.declared.output_log.Output.{Output}
 use Rattle.om_board.specs.Boards.{BoardState, IsBoard}
 use Rattle.om_board.specs.Fronts.{front_of}
 use Rattle.om_board.specs.declared.front.Front.{Front}
-use Rattle.om_format.specs.Queues.{queue_end}
 use Rattle.om_process.specs.Core.{status_of}
 use Rattle.om_process.specs.Images.{program_of}
-use Rattle.om_process.specs.Kept.{queue_at}
 use Rattle.om_process.specs.Process.{Process, Program, Received, made}
 use Rattle.om_process.specs.Turns.{Reaches, next_move}
 use Rattle.om_process.specs.declared.image.Image.{Image}
 use Rattle.om_process.specs.declared.status.Status.{Status}
-use Rattle.om_runner.specs.Released.{AreAllMade}
-use Rattle.om_runner.specs.declared.fault.RunFault.{RunFault}
-use Rattle.om_runner.specs.declared.fault.RunFault.TheVariants.{Turns, GateShut, Fault, Load, StoreInUse, AnotherCluster, StoreMissing}
+use Rattle.om_report.specs.Released.{AreAllMade}
 
 -- the status is that of a state of process `own` of n along the program, for some receipts and turns
 abbrev pub IsStatusAlong : Program → ℕ → ℕ → Status → Type 0
@@ -66,18 +62,3 @@ AreWholeOver is_clean images statuses released stores =
 -- the front is the last that was posted on a board of n processes
 abbrev pub IsLastOn : ℕ → Front → Type 0
 IsLastOn n front = (board : BoardState) × IsBoard n board × (front ≡ front_of board.manager)
-
--- the process that a fault names, if it names one
-abbrev pub process_of : RunFault → Option ℕ
-process_of (Turns pid) = Some pid
-process_of (GateShut pid) = Some pid
-process_of (Fault pid) = Some pid
-process_of (Load pid) = Some pid
-process_of (StoreInUse pid) = Some pid
-process_of (AnotherCluster pid) = Some pid
-process_of (StoreMissing pid) = Some pid
-process_of _ = None
-
--- the fault is of one of n processes, or of none
-abbrev pub IsFaultOf : ℕ → RunFault → Type 0
-IsFaultOf n fault = IfSome (process_of fault) (λ pid. pid < n)

@@ -1,6 +1,6 @@
-use crate::opener::{OpenFault, Opener};
 use om_interval::Pid;
 use om_stable::MemStable;
+use om_worker_parts::{OpenFault, Opener};
 use std::alloc::Global;
 
 /// Makes stores in memory, which are gone when the run is.

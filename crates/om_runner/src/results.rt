@@ -1,34 +1,24 @@
 //! What workers bring back, and which fault is told of all.
 
 ghost use Rattle.std.specs.Prelude.{◌≡◌, ◌≤◌, ◌↔◌, ◌⊎◌, All, IfErr, IfNone, IfOk, IfSome, IsTrue, OnOk, length, map, vec_len};
-ghost use Rattle.om_runner.specs.Reports.{IsFaultOf};
+ghost use Rattle.om_report.specs.Faults.{IsFaultOf};
 ghost use Rattle.om_process.specs.Core.{IsEnd};
-ghost use Rattle.om_runner.specs.declared.fault.RunFault.TheVariants.{Memory};
-ghost use Rattle.om_runner.specs.steps.Ends.{AreBelow, AreEndsOf, AreOwnEnds, AreWholeOver, IsGiven, IsLeastFault, IsOut, IsWell};
-ghost use Rattle.om_runner.specs.steps.Harvests.{AreOwn, harvested};
-ghost use Rattle.om_runner.specs.steps.Network.{IsNetwork};
+ghost use Rattle.om_report.specs.declared.fault.RunFault.TheVariants.{Memory};
+ghost use Rattle.om_runner.specs.steps.Ends.{AreBelow, AreEndsOf, AreOwnEnds, IsLeastFault, IsOut, IsWell};
+ghost use Rattle.om_runner.specs.Reports.{AreWholeOver};
+ghost use Rattle.om_worker.specs.Ends.{IsGiven};
+ghost use Rattle.om_report.specs.Harvests.{AreOwn, harvested};
+ghost use Rattle.om_worker_parts.specs.Network.{IsNetwork};
 ghost use Rattle.om_runner.specs.steps.Settling.{ArePasses};
 
-use crate::fault::RunFault;
-use crate::ground::Cluster;
-use crate::harvest::Harvest;
-use crate::network::Ends;
-use crate::opener::Opener;
 use om_board::{Naming, PutPass, TakePass};
 use om_process::{Status, Witness};
+use om_report::{Harvest, RunFault};
 use om_stable::Stable;
+use om_worker::{Cluster, Finished};
+use om_worker_parts::Opener;
 use std::alloc::{AllocError, Global};
 use std::sync::Wait;
-
-// What a worker brings back.
-#[derive(Drop)]
-pub(crate) struct Finished<K: Naming, S: Stable> {
-    pub(crate) status: Status,
-    pub(crate) harvest: Harvest<K>,
-    pub(crate) store: S,
-    pub(crate) ends: Ends,
-    pub(crate) witness: Witness,
-}
 
 // What all workers brought back, by process.
 #[derive(Drop)]

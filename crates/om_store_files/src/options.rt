@@ -5,9 +5,9 @@ ghost use Rattle.std.specs.Prelude.{◌≡◌, IfSome};
 use sqlite::Options;
 use std::hash::{BuildHasher, RandomState};
 
-/// How many pages that were read each connection to a store keeps in memory, 4 KiB each. They are cleared as it is opened, and a
-/// store that is pruned has few.
-pub const CACHE_PAGES: usize = 64;
+/// How many pages that were read each connection to a store keeps in memory, of the length that its database has (1 KiB where a run
+/// made it). They are cleared as it is opened, and a store that is pruned has few.
+pub const CACHE_PAGES: usize = 256;
 
 /// Returns how the database of a store is opened; `None` where the system gives no random number. Pages that are read again are
 /// tested by digests under a key that is drawn at random.

@@ -128,6 +128,7 @@ silent_none old new p fuel steps sent made status r = record {
   manager = more_none old.manager p;
   released = keeps_same old.manager;
   contents = refl;
+  since = refl;
 }
 
 -- ---- turns that make nothing
@@ -200,6 +201,7 @@ silent_more old mid new own n p done k sent made m next status s going r keeps =
       manager = more_then old.manager mid.manager new.manager p s.manager r.manager;
       released = released_then old.manager mid.manager new.manager (more_size old.manager mid.manager p s.manager) s.released keeps;
       contents = r.contents ∙ s.contents;
+      since = r.since ∙ s.since;
     }
 
 -- the last part, and with it the run
@@ -228,6 +230,7 @@ run_over old mid new own n p fuel done k steps all sent made m status s r is wit
       handed_in = r.handed_in;
       manager = more_then old.manager mid.manager new.manager p s.manager r.manager;
       contents = r.contents ∙ s.contents;
+      since = r.since ∙ s.since;
     }
 
 -- ---- events
@@ -244,6 +247,7 @@ run_refused old new p k fuel refusals.Memory within h = record {
   frames = h.frames;
   manager = h.manager;
   contents = h.contents;
+  since = h.since;
 }
 run_refused old new p k fuel refusals.NoFrame within h = absurd h
 run_refused old new p k fuel refusals.NotIn within h = absurd h

@@ -40,11 +40,7 @@ pub(crate) fn is_seated(world: &World<MemStable>, process: Pid, n: u32) -> bool
 fn received(alloc: Global, world: &World<MemStable>, process: Pid) -> Result<Deed, AllocError>
     ensures { IfOk result (λ deed. IsDeed deed process world.now Kind.Took) }
 {
-    let live = world.live();
-    if live.is_empty() {
-        return Err(AllocError);
-    }
-    match live.get(live.len() - 1) {
+    match world.last_received() {
         Some(entry) => Ok(Deed::Took(entry.from.index() as u32, entry.body.copy(alloc)?)),
         None => Err(AllocError),
     }

@@ -17,36 +17,38 @@ use Rattle.om_manager.specs.State.{ManagerState, held_by, released_by}
 use Rattle.om_manager.specs.declared.answers.OutputError.{OutputError}
 use Rattle.om_manager.specs.declared.answers.RecordError.{RecordError}
 use Rattle.om_member.specs.Handed.{AreHandedUpTo, outputs_from}
-use Rattle.om_member.specs.Members.{Gained, HasNoted, HasRun, HasStored, HasTrimmed, IsNotUp, IsOffered, TakesTurns, WasCalled, WasPruned, after_store, trimmed_core}
+use Rattle.om_member.specs.Members.{Gained, HasNoted, HasRun, HasStored, HasTrimmed, IsNotUp, IsOffered, TakesTurns, WasCalled, WasPruned, after_store, core_of, trimmed_core}
 use Rattle.om_member.specs.declared.member.Member.{Member}
 use Rattle.om_member.specs.declared.member.NotUp.{NotUp}
 use Rattle.om_member.specs.declared.member.MemberState.TheVariants as stands
 use Rattle.om_world.specs.declared.entry.Entry.{Entry}
 use Rattle.om_world.specs.declared.event.Refusal.{Refusal}
 use Rattle.om_world.specs.declared.event.Refusal.TheVariants as why
-use Rattle.om_world.specs.Changes.{IsUp}
-use Rattle.om_world.specs.World.{Health, WorldState, recovered}
-use Rattle.om_world.specs.steps.Members.{content_in, core_in, health_in, place_in, place_of, round_in, seen, sound_in, health_of}
-use Rattle.om_world.specs.steps.Moves.{HasCalled, HasRunAt, HasTold, IsOfferedAt, IsToldUpTo, TakesTurnsAt, told_of}
+use Rattle.om_world.specs.Changes.{IsUp, has_rows, has_stored as since_stored}
+use Rattle.om_world.specs.World.{Health, WorldState, recovered, SinceState}
+use Rattle.om_world.specs.steps.Members.{Besides, content_in, core_in, health_in, place_in, place_of, round_in, seen, sound_in, health_of}
+use Rattle.om_world.specs.steps.Moves.{HasCalled, HasRunAt, HasTold, IsOfferedAt, IsToldUpTo, TakesTurnsAt, TellsStored, rows_of, told_of, refusal_of_store, since_called, since_told}
 use Rattle.om_world.specs.steps.Pruning.{HasPruned}
 use Rattle.om_world.specs.steps.Running.{HasHandedIn}
 use Rattle.om_world.specs.steps.Sound.{IsWorld}
 use Rattle.om_world.proofs.Giving.{given_at, offered}
 use Rattle.om_world.proofs.Handing.{IsHandedIn, after_handed, has_handed}
+use Rattle.om_world.proofs.Lists.{map_at, once, set_there}
 use Rattle.om_world.proofs.Moved.{after_turns}
-use Rattle.om_world.proofs.Noting.{IsCalledIn, IsNotedIn, after_called, after_note, has_called, has_told}
+use Rattle.om_world.proofs.Noting.{IsCalledIn, IsNotedIn, after_called, after_note, has_called, has_told, stored_since, with_since, world_since}
+use Rattle.om_world.proofs.Pending.{stored_if}
 use Rattle.om_world.proofs.Pruning.{IsPrunedIn, after_pruned_store, has_pruned}
 use Rattle.om_world.proofs.Seats.{called_in, core_was, cores_set, is_up, kept, restored, seated, still, was_up}
 use Rattle.om_world.proofs.Kept.{remade}
 use Rattle.om_world.proofs.Trimming.{IsTrimmedIn, after_trim}
 
-module _ {S : Type 0} (content : S → Content) (is_clean : S → Bool) (failed : S → ℕ) (IsSound : S → Type 0) (P : List Program) (L : List Entry) (F : List Message) (ms : List (Member S)) (M : ManagerState) (O : List Content) (p : ℕ) (m : Member S) (at : slice_get ms p ≡ Some m) (n : Member S) (v : WorldState) (i : IsWorld (sound_in IsSound) ms (seen content (health_of is_clean failed) P L F ms M O)) (e : seen content (health_of is_clean failed) P L F ms M O ≡ v) where
+module _ {S : Type 0} (content : S → Content) (is_clean : S → Bool) (failed : S → ℕ) (IsSound : S → Type 0) (P : List Program) (L : List Entry) (F : List Message) (ms : List (Member S)) (M : ManagerState) (O : Besides) (p : ℕ) (m : Member S) (at : slice_get ms p ≡ Some m) (n : Member S) (v : WorldState) (i : IsWorld (sound_in IsSound) ms (seen content (health_of is_clean failed) P L F ms M O)) (e : seen content (health_of is_clean failed) P L F ms M O ≡ v) where
   -- ---- it stored
   module _ (kind : Batch) (r : Result (Result (Unit {0}) StoreError) NotUp) (up : IsUp v p) (did : IfOk r (λ a. HasStored content failed is_clean IsSound kind m a n)) (not : OnErr r (IsNotUp m.standing)) where
     stored : (a : Result (Unit {0}) StoreError) × (r ≡ Ok a) × HasStored content failed is_clean IsSound kind m a n
     stored = was_up r (λ a. HasStored content failed is_clean IsSound kind m a n) m.standing (is_up content (health_of is_clean failed) IsSound P L F ms M O p m at v e up) did not
 
-    stored_in : (a : Result (Unit {0}) StoreError) → HasStored content failed is_clean IsSound kind m a n → IsCalledIn (content_in content) (health_in (health_of is_clean failed)) (sound_in IsSound) kind (map core_in ms) p a ms (set ms p n) (map core_in (set ms p n))
+    abbrev stored_in : (a : Result (Unit {0}) StoreError) → HasStored content failed is_clean IsSound kind m a n → IsCalledIn (content_in content) (health_in (health_of is_clean failed)) (sound_in IsSound) kind (map core_in ms) p a ms (set ms p n) (map core_in (set ms p n))
     stored_in a h = (
       h.core,
       core_was content (health_of is_clean failed) IsSound P L F ms M O p m at n h.core h.up,
@@ -54,21 +56,42 @@ module _ {S : Type 0} (content : S → Content) (is_clean : S → Bool) (failed 
       called_in content is_clean failed IsSound (a ≡ Err store_errors.Fault) (Gained kind h.core a) ms p m n at h.called,
     )
 
-    pub after_stored : IsWorld (sound_in IsSound) (set ms p n) (seen content (health_of is_clean failed) P L F (set ms p n) M O)
-    after_stored =
-        let a = stored.0 in let h = stored.2 in
-        subst (IsWorld (sound_in IsSound) (set ms p n)) (seated content (health_of is_clean failed) IsSound P L F ms M O p m at n (ap place_in h.others ∙ sym (ap place_of h.up)) (ap round_in h.others) L F M)
-        (after_called (content_in content) (health_in (health_of is_clean failed)) (sound_in IsSound) kind (seen content (health_of is_clean failed) P L F ms M O) p a ms (set ms p n) (map core_in (set ms p n)) i (subst (λ (x : WorldState). IsUp x p) (sym e) up) (stored_in a h))
+    module _ (told : Result (Unit {0}) Refusal) (is : told ≡ told_of refusal_of_store r) (rows : Bool) (are : rows ≡ rows_of (core_of n.standing)) (since : SinceState) (kept : since ≡ since_told rows told O.since) where
+      abbrev called : Besides
+      called = record O { since = since_called kind stored.2.core stored.0 O.since }
 
-    pub has_stored : (a : Result (Unit {0}) StoreError) × HasCalled kind v p a (seen content (health_of is_clean failed) P L F (set ms p n) M O) × (r ≡ Ok a)
-    has_stored =
-        let a = stored.0 in let h = stored.2 in (
-          a,
-          subst (λ (x : WorldState). HasCalled kind x p a (seen content (health_of is_clean failed) P L F (set ms p n) M O)) e
-              (subst (HasCalled kind (seen content (health_of is_clean failed) P L F ms M O) p a) (seated content (health_of is_clean failed) IsSound P L F ms M O p m at n (ap place_in h.others ∙ sym (ap place_of h.up)) (ap round_in h.others) L F M)
-              (has_called (content_in content) (health_in (health_of is_clean failed)) (sound_in IsSound) kind (seen content (health_of is_clean failed) P L F ms M O) p a ms (set ms p n) (map core_in (set ms p n)) i (subst (λ (x : WorldState). IsUp x p) (sym e) up) (stored_in a h))),
-          stored.1,
-        )
+      since_is : since ≡ since_called kind stored.2.core stored.0 O.since
+      since_is = kept ∙ ap (λ t. since_told rows t O.since) (is ∙ ap (told_of refusal_of_store) stored.1) ∙ by stored.0 stored.2.core (are ∙ ap (λ (x : Member S). rows_of (core_of x.standing)) stored.2.others)
+        where
+          by : (a : Result (Unit {0}) StoreError) (c : CoreState) → rows ≡ has_rows (after_store kind c a).pending → since_told rows (told_of refusal_of_store (Ok a)) O.since ≡ since_called kind c a O.since
+          by (Ok done) c e = ap (λ b. since_stored b O.since) e
+          by (Err other) c e = refl
+
+      pub after_stored : IsWorld (sound_in IsSound) (set ms p n) (seen content (health_of is_clean failed) P L F (set ms p n) M (record O { since = since }))
+      after_stored =
+          let a = stored.0 in let h = stored.2 in
+          subst (λ z. IsWorld (sound_in IsSound) (set ms p n) (seen content (health_of is_clean failed) P L F (set ms p n) M (record O { since = z }))) (sym since_is)
+          (subst (IsWorld (sound_in IsSound) (set ms p n)) (seated content (health_of is_clean failed) IsSound P L F ms M called p m at n (ap place_in h.others ∙ sym (ap place_of h.up)) (ap round_in h.others) L F M)
+          (after_called (content_in content) (health_in (health_of is_clean failed)) (sound_in IsSound) kind (seen content (health_of is_clean failed) P L F ms M called) p a ms (set ms p n) (map core_in (set ms p n))
+          (world_since (sound_in IsSound) ms (seen content (health_of is_clean failed) P L F ms M O) kind h.core a i) (subst (λ (x : WorldState). IsUp x p) (sym e) up) (stored_since kind (map core_in ms) p h.core (core_was content (health_of is_clean failed) IsSound P L F ms M O p m at n h.core h.up) a O.since) (stored_in a h)))
+
+      pub has_stored : (a : Result (Unit {0}) StoreError) × HasCalled kind v p a (seen content (health_of is_clean failed) P L F (set ms p n) M (record O { since = since })) × (r ≡ Ok a)
+      has_stored =
+          let a = stored.0 in let h = stored.2 in (
+            a,
+            subst (λ z. HasCalled kind v p a (seen content (health_of is_clean failed) P L F (set ms p n) M (record O { since = z }))) (sym since_is)
+                (subst (λ (x : WorldState). HasCalled kind x p a (seen content (health_of is_clean failed) P L F (set ms p n) M called)) e
+                (subst (λ (x : WorldState). HasCalled kind (seen content (health_of is_clean failed) P L F ms M O) p a (with_since kind h.core a x)) (seated content (health_of is_clean failed) IsSound P L F ms M O p m at n (ap place_in h.others ∙ sym (ap place_of h.up)) (ap round_in h.others) L F M)
+                (has_called (content_in content) (health_in (health_of is_clean failed)) (sound_in IsSound) kind (seen content (health_of is_clean failed) P L F ms M O) p a ms (set ms p n) (map core_in (set ms p n)) i (subst (λ (x : WorldState). IsUp x p) (sym e) up) (stored_in a h)))),
+            stored.1,
+          )
+
+      pub since_told_ok : OnOk told (TellsStored (seen content (health_of is_clean failed) P L F (set ms p n) M (record O { since = since })) p)
+      since_told_ok = subst (λ (z : SinceState). OnOk told (TellsStored (seen content (health_of is_clean failed) P L F (set ms p n) M (record O { since = z })) p)) (sym kept) (by told)
+        where
+          by : (t : Result (Unit {0}) Refusal) → OnOk t (TellsStored (seen content (health_of is_clean failed) P L F (set ms p n) M (record O { since = since_told rows t O.since })) p)
+          by (Ok done) = record { tells = λ c there have. stored_if rows O.since (are ∙ ap rows_of (once (core_in n) (Some c) (sym (map_at core_in (set ms p n) p n (set_there ms p m n at)) ∙ there)) ∙ have) }
+          by (Err refusal) = tt
 
   -- ---- its store was pruned
   module _ (c : ℕ) (a : Result (Unit {0}) StoreError) (effective : IsEffective M.rows p (recovered M p) c) (others : n ≡ record m { store = n.store }) (called : WasCalled content failed is_clean IsSound (a ≡ Err store_errors.Fault) m.store n.store (WasPruned c a)) where
@@ -84,7 +107,7 @@ module _ {S : Type 0} (content : S → Content) (is_clean : S → Bool) (failed 
         (subst (HasPruned (seen content (health_of is_clean failed) P L F ms M O) p a) (restored content (health_of is_clean failed) IsSound P L F ms M O p m at n (ap core_in others) (ap place_in others) (ap round_in others)) (has_pruned (content_in content) (health_in (health_of is_clean failed)) (sound_in IsSound) (seen content (health_of is_clean failed) P L F ms M O) p c a ms (set ms p n) i pruned_in never))
 
   -- ---- its rows were told
-  module _ (q : ℕ) (is : q ≡ p) (k : ManagerState) (r : Result (ℕ × Result (Unit {0}) RecordError) NotUp) (up : IsUp v p) (did : IfOk r (λ a. HasNoted M q m a.0 a.1 k n)) (not : OnErr r (IsNotUp m.standing)) where
+  module _ (q : ℕ) (is : q ≡ p) (k : ManagerState) (r : Result (ℕ × Result (Unit {0}) RecordError) NotUp) (up : IsUp v p) (since : TellsStored v p) (did : IfOk r (λ a. HasNoted M q m a.0 a.1 k n)) (not : OnErr r (IsNotUp m.standing)) where
     noted : (a : ℕ × Result (Unit {0}) RecordError) × (r ≡ Ok a) × HasNoted M q m a.0 a.1 k n
     noted = was_up r (λ a. HasNoted M q m a.0 a.1 k n) m.standing (is_up content (health_of is_clean failed) IsSound P L F ms M O p m at v e up) did not
 
@@ -101,7 +124,7 @@ module _ {S : Type 0} (content : S → Content) (is_clean : S → Bool) (failed 
         let a = noted.0 in let h = noted.2 in
         still content (health_of is_clean failed) IsSound P L F ms M O p m at n (ap (λ (x : Member S). x.store) h.others) (seen content (health_of is_clean failed) P L F (set ms p n) k O)
         (subst (IsWorld (sound_in IsSound) ms) (kept content (health_of is_clean failed) IsSound P L F ms M O p m at n (ap place_in h.others ∙ sym (ap place_of h.up)) (ap round_in h.others) (ap (λ (x : Member S). x.store) h.others) L F k)
-        (after_note (sound_in IsSound) ms (seen content (health_of is_clean failed) P L F ms M O) p a.0 a.1 k (map core_in (set ms p n)) i (subst (λ (x : WorldState). IsUp x p) (sym e) up) (noted_in a.0 a.1 h)))
+        (after_note (sound_in IsSound) ms (seen content (health_of is_clean failed) P L F ms M O) p a.0 a.1 k (map core_in (set ms p n)) i (subst (λ (x : WorldState). IsUp x p) (sym e) up) (subst (λ (x : WorldState). TellsStored x p) (sym e) since) (noted_in a.0 a.1 h)))
 
     pub has_noted : (count : ℕ) × (end : Result (Unit {0}) RecordError) × HasTold v p count end (seen content (health_of is_clean failed) P L F (set ms p n) k O) × (r ≡ Ok (count, end))
     has_noted =
@@ -211,12 +234,12 @@ module _ {S : Type 0} (content : S → Content) (is_clean : S → Bool) (failed 
         )
 
 -- bounds by the manager's rows have a place for each process
-pub bounds_fit : {S : Type 0} (content : S → Content) (health : S → Health) (IsSound : S → Type 0) (P : List Program) (L : List Entry) (F : List Message) (ms : List (Member S)) (M : ManagerState) (O : List Content) (p : ℕ) (m : Member S) → slice_get ms p ≡ Some m → IsWorld (sound_in IsSound) ms (seen content health P L F ms M O)
+pub bounds_fit : {S : Type 0} (content : S → Content) (health : S → Health) (IsSound : S → Type 0) (P : List Program) (L : List Entry) (F : List Message) (ms : List (Member S)) (M : ManagerState) (O : Besides) (p : ℕ) (m : Member S) → slice_get ms p ≡ Some m → IsWorld (sound_in IsSound) ms (seen content health P L F ms M O)
     → (core : CoreState) → m.standing ≡ stands.Up core → {q : ℕ} (got : List ℕ) → AreGotFrom M.rows M.recovery q got → length got ≡ cluster_size core.now
 bounds_fit content health IsSound P L F ms M O p m at i core up got g = g.places ∙ i.shape.size ∙ sym (i.shape.own p core (core_was content health IsSound P L F ms M O p m at m core up)).size
 
 -- ---- its outputs were handed in
-module _ {S : Type 0} (content : S → Content) (health : S → Health) (IsSound : S → Type 0) (P : List Program) (L : List Entry) (F : List Message) (ms : List (Member S)) (M : ManagerState) (O : List Content) (p : ℕ) (m : Member S) (at : slice_get ms p ≡ Some m) (v : WorldState) (i : IsWorld (sound_in IsSound) ms (seen content health P L F ms M O)) (e : seen content health P L F ms M O ≡ v)
+module _ {S : Type 0} (content : S → Content) (health : S → Health) (IsSound : S → Type 0) (P : List Program) (L : List Entry) (F : List Message) (ms : List (Member S)) (M : ManagerState) (O : Besides) (p : ℕ) (m : Member S) (at : slice_get ms p ≡ Some m) (v : WorldState) (i : IsWorld (sound_in IsSound) ms (seen content health P L F ms M O)) (e : seen content health P L F ms M O ≡ v)
     (q : ℕ) (is : q ≡ p) (k : ManagerState) (r : Result (Result (Unit {0}) OutputError) NotUp) (up : IsUp v p) (did : IfOk r (λ end. (core : CoreState) × (m.standing ≡ stands.Up core) × AreHandedUpTo M core.round q (outputs_from core (length (held_by M q))) end k)) (not : OnErr r (IsNotUp m.standing)) where
   handed : (end : Result (Unit {0}) OutputError) × (r ≡ Ok end) × ((core : CoreState) × (m.standing ≡ stands.Up core) × AreHandedUpTo M core.round q (outputs_from core (length (held_by M q))) end k)
   handed = was_up r (λ end. (core : CoreState) × (m.standing ≡ stands.Up core) × AreHandedUpTo M core.round q (outputs_from core (length (held_by M q))) end k) m.standing (is_up content health IsSound P L F ms M O p m at v e up) did not

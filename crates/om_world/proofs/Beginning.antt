@@ -30,7 +30,7 @@ use Rattle.om_manager.specs.declared.presence.Presence.TheVariants.{Away, Failed
 use Rattle.om_world.specs.declared.entry.Entry.{Entry}
 use Rattle.om_world.specs.declared.process_state.ProcessState.{ProcessState}
 use Rattle.om_world.specs.Live.{program_at}
-use Rattle.om_world.specs.World.{Health, WorldState, IsEmpty, IsKnown, all_clean}
+use Rattle.om_world.specs.World.{Health, WorldState, IsEmpty, IsKnown, all_clean, SinceState}
 use Rattle.om_world.specs.steps.Past.{Past, history}
 use Rattle.om_world.specs.Started.{HaveFirst, IsLoadable, IsNew, IsStarted}
 use Rattle.om_world.specs.steps.Sound.{HasBytes, HasShape, IsCoreOf, IsRunning, IsStored, IsUpIn, IsWorld, Sound}
@@ -39,6 +39,7 @@ use Rattle.om_world.proofs.Gaining.{checkpoint_stored}
 use Rattle.om_world.proofs.Holding.{before_map}
 use Rattle.om_world.proofs.Legal.{each_legal}
 use Rattle.om_world.proofs.Lists.{inside, length-map, map_at, none_in, once, there}
+use Rattle.om_world.proofs.Between.{between_now}
 
 -- ---- lists
 index_at : {A : Type 0} (xs : List A) (i : ℕ) (x d : A) → slice_get xs i ≡ Some x → slice_index_or xs i d ≡ x
@@ -164,6 +165,7 @@ begun content health programs cores xs ys m = record {
   contents = map content ys;
   health = map health ys;
   origins = map content xs;
+  since = record { before = []; stored = false };
 }
 
 -- the core at a place
@@ -327,6 +329,9 @@ pub world_begun : {S : Type 0} (content : S → Content) (health : S → Health)
 world_begun content health IsSound programs cores xs ys m b = record {
   shape = shape_begun content health IsSound programs cores xs ys m b;
   clean = λ known. (stores_sound content health IsSound programs cores xs ys m b known.1, sound_begun content health IsSound programs cores xs ys m b known);
+  between = λ known free.
+      between_now (begun content health programs cores xs ys m) (shape_begun content health IsSound programs cores xs ys m b) (sound_begun content health IsSound programs cores xs ys m b known)
+      (λ p lt news. let first = b.fresh.round in omega arith);
 }
 
 -- ---- what a start says
@@ -341,6 +346,7 @@ is_started content health IsSound programs cores xs ys m b = record {
   places = refl;
   rounds = refl;
   manager = b.fresh;
+  since = refl;
 }
 
 pub have_first : {S : Type 0} (content : S → Content) (health : S → Health) (IsSound : S → Type 0) (programs : List Program) (cores : List (Option CoreState)) (xs ys : List S) (m : ManagerState) → IsBegun content health IsSound programs cores xs ys m → all_clean (map health ys) ≡ true
@@ -374,14 +380,15 @@ begun_by content health IsSound programs n cores xs ys m size few stores started
   sound = sound;
 }
 
-pub begun_is : {S : Type 0} (content : S → Content) (health : S → Health) (programs ps : List Program) (n : ℕ) (live : List Entry) (frames : List Message) (cores : List (Option CoreState)) (places : List ProcessState) (rounds : List ℕ) (xs os ys : List S) (m : ManagerState) → length programs ≡ n
-    → ps ≡ programs → live ≡ [] → frames ≡ [] → places ≡ replicate n ProcessState.Up → rounds ≡ replicate n 0 → os ≡ xs
-    → begun content health programs cores xs ys m ≡ record { programs = ps; live = live; frames = frames; cores = cores; places = places; rounds = rounds; manager = m; contents = map content ys; health = map health ys; origins = map content os }
-begun_is content health programs ps n live frames cores places rounds xs os ys m size p l f u r o =
-    ap (λ k. record { programs = programs; live = []; frames = []; cores = cores; places = replicate k ProcessState.Up; rounds = replicate k 0; manager = m; contents = map content ys; health = map health ys; origins = map content xs }) size
-    ∙ sym (ap (λ k. record { programs = k; live = live; frames = frames; cores = cores; places = places; rounds = rounds; manager = m; contents = map content ys; health = map health ys; origins = map content os }) p
-    ∙ ap (λ k. record { programs = programs; live = k; frames = frames; cores = cores; places = places; rounds = rounds; manager = m; contents = map content ys; health = map health ys; origins = map content os }) l
-    ∙ ap (λ k. record { programs = programs; live = []; frames = k; cores = cores; places = places; rounds = rounds; manager = m; contents = map content ys; health = map health ys; origins = map content os }) f
-    ∙ ap (λ k. record { programs = programs; live = []; frames = []; cores = cores; places = k; rounds = rounds; manager = m; contents = map content ys; health = map health ys; origins = map content os }) u
-    ∙ ap (λ k. record { programs = programs; live = []; frames = []; cores = cores; places = replicate n ProcessState.Up; rounds = k; manager = m; contents = map content ys; health = map health ys; origins = map content os }) r
-    ∙ ap (λ k. record { programs = programs; live = []; frames = []; cores = cores; places = replicate n ProcessState.Up; rounds = replicate n 0; manager = m; contents = map content ys; health = map health ys; origins = map content k }) o)
+pub begun_is : {S : Type 0} (content : S → Content) (health : S → Health) (programs ps : List Program) (n : ℕ) (live : List Entry) (frames : List Message) (cores : List (Option CoreState)) (places : List ProcessState) (rounds : List ℕ) (xs os ys : List S) (m : ManagerState) (since : SinceState) → length programs ≡ n
+    → ps ≡ programs → live ≡ [] → frames ≡ [] → places ≡ replicate n ProcessState.Up → rounds ≡ replicate n 0 → os ≡ xs → since ≡ record { before = []; stored = false }
+    → begun content health programs cores xs ys m ≡ record { programs = ps; live = live; frames = frames; cores = cores; places = places; rounds = rounds; manager = m; contents = map content ys; health = map health ys; origins = map content os; since = since }
+begun_is content health programs ps n live frames cores places rounds xs os ys m since size p l f u r o z =
+    ap (λ k. record { programs = programs; live = []; frames = []; cores = cores; places = replicate k ProcessState.Up; rounds = replicate k 0; manager = m; contents = map content ys; health = map health ys; origins = map content xs; since = record { before = []; stored = false } }) size
+    ∙ sym (ap (λ k. record { programs = k; live = live; frames = frames; cores = cores; places = places; rounds = rounds; manager = m; contents = map content ys; health = map health ys; origins = map content os; since = record { before = []; stored = false } }) p
+    ∙ ap (λ k. record { programs = programs; live = k; frames = frames; cores = cores; places = places; rounds = rounds; manager = m; contents = map content ys; health = map health ys; origins = map content os; since = record { before = []; stored = false } }) l
+    ∙ ap (λ k. record { programs = programs; live = []; frames = k; cores = cores; places = places; rounds = rounds; manager = m; contents = map content ys; health = map health ys; origins = map content os; since = record { before = []; stored = false } }) f
+    ∙ ap (λ k. record { programs = programs; live = []; frames = []; cores = cores; places = k; rounds = rounds; manager = m; contents = map content ys; health = map health ys; origins = map content os; since = record { before = []; stored = false } }) u
+    ∙ ap (λ k. record { programs = programs; live = []; frames = []; cores = cores; places = replicate n ProcessState.Up; rounds = k; manager = m; contents = map content ys; health = map health ys; origins = map content os; since = record { before = []; stored = false } }) r
+    ∙ ap (λ k. record { programs = programs; live = []; frames = []; cores = cores; places = replicate n ProcessState.Up; rounds = replicate n 0; manager = m; contents = map content ys; health = map health ys; origins = map content k; since = record { before = []; stored = false } }) o)
+    ∙ ap (λ k. record { programs = ps; live = live; frames = frames; cores = cores; places = places; rounds = rounds; manager = m; contents = map content ys; health = map health ys; origins = map content os; since = k }) (sym z)

@@ -7,7 +7,7 @@ use Rattle.om_process.specs.Core.{CoreState}
 use Rattle.om_manager.specs.Gatherings.{presence_of, presences_of}
 use Rattle.om_manager.specs.Rounds.{Failing, Fails, Gathers, Joining, MayJoin}
 use Rattle.om_manager.specs.steps.Presences.{with_failed, with_joined}
-use Rattle.om_manager.specs.State.{ManagerState}
+use Rattle.om_manager.specs.State.{ManagerState, released_by}
 use Rattle.om_manager.specs.declared.answers.FailError.{FailError}
 use Rattle.om_manager.specs.declared.answers.FailError.TheVariants as failing
 use Rattle.om_manager.specs.declared.answers.Gathered.{Gathered}
@@ -18,21 +18,24 @@ use Rattle.om_manager.specs.declared.presence.Presence.TheVariants.{Away, Failed
 use Rattle.om_world.specs.declared.entry.Entry.{Entry}
 use Rattle.om_world.specs.declared.process_state.ProcessState.{ProcessState}
 use Rattle.om_world.specs.Changes.{IsUp}
-use Rattle.om_world.specs.Failures.{HasNews}
-use Rattle.om_world.specs.World.{WorldState}
+use Rattle.om_world.specs.Failures.{HasNews, gathered, live_after, since_after}
+use Rattle.om_world.specs.World.{WorldState, SinceState, recovered}
 use Rattle.om_world.specs.steps.Past.{past_of}
 use Rattle.om_world.specs.steps.Gathering.{HasDeclaredAt, HasEntered, HasGathered, IsWhyNot, StandsIn}
-use Rattle.om_world.specs.steps.Sound.{HasShape, IsWorld, Runs, Sound}
-use Rattle.om_world.proofs.Gathering.{IsEntering, now_in, running_interval, sound_gathered}
+use Rattle.om_world.specs.steps.Sound.{HasShape, IsWorld, Runs, Sound, IsBetween, before_of}
+use Rattle.om_world.proofs.Gathering.{IsEntering, now_in, running_interval, sound_gathered, are_in}
 use Rattle.om_world.proofs.Lists.{at_change, either, inside, once, set_apart, there}
+use Rattle.om_world.proofs.Between.{between_finished, between_more}
+use Rattle.om_manager.specs.Outputs.{HeldOutput}
+use Rattle.om_manager.specs.declared.answers.Gathered.TheVariants.{Waiting, Finished}
 
 -- ---- a process is placed anew
 abbrev pub placed : WorldState → ℕ → ProcessState → WorldState
 placed w p place = record w { places = set w.places p place }
 
 -- the manager knows more, and what was received may be cut
-abbrev pub placed_with : WorldState → ℕ → ProcessState → List Entry → ManagerState → WorldState
-placed_with w p place live m = record w { live = live; places = set w.places p place; manager = m }
+abbrev pub placed_with : WorldState → ℕ → ProcessState → List Entry → ManagerState → SinceState → WorldState
+placed_with w p place live m since = record w { live = live; places = set w.places p place; manager = m; since = since }
 
 -- it is in with its core, or down
 record IsOut (w : WorldState) (p : ℕ) (place : ProcessState) : Type 0 where
@@ -120,13 +123,24 @@ record IsTakenIn (w : WorldState) (p : ℕ) (place : ProcessState) (x : Presence
   pub entering : IsEntering (placed w p place) p x
   pub gathers : Gathers (now_in w p x) w.manager told m
 
-after_gather : {S E : Type 0} (IsSound : S → Type 0) (xs : List S) (w : WorldState) (p : ℕ) (place : ProcessState) (x : Presence) (told : Gathered) (m : ManagerState) (live : List Entry) → IsWorld IsSound xs w → p < length w.places
-    → IsOut w p place → (Sound w → IsTakenIn w p place x told m) → HasGathered {E = E} w.manager w.live (Ok told) m live → IsWorld IsSound xs (placed_with w p place live m)
-after_gather IsSound xs w p place x told m live i lt k takes g =
-    subst (λ l. IsWorld IsSound xs (placed_with w p place l m)) (sym g.live) (record {
+between_gathered : (w : WorldState) (p : ℕ) (x : Presence) (told : Gathered) (m : ManagerState) → HasShape w → Sound w → IsEntering w p x → Gathers (now_in w p x) w.manager told m → (w.since.stored ≡ false → IsBetween (before_of w) w.live w.contents)
+    → (gathered w told m).since.stored ≡ false → IsBetween (before_of (gathered w told m)) (gathered w told m).live (gathered w told m).contents
+between_gathered w p x Waiting m h s e g old free = between_more (before_of w) m w.live w.contents (λ q. ap (λ (k : ManagerState). recovered k q) g.1) (λ q lt. no_less (released_by w.manager q) (released_by m q) (ap (λ (k : ManagerState). released_by k q) g.1)) (old free)
+  where
+    no_less : (xs ys : List HeldOutput) → ys ≡ xs → length xs ≤ length ys
+    no_less xs ys is = let same = ap length is in omega arith
+between_gathered w p x Finished m h s e g old free = between_finished w (now_in w p x) m (record { shape = h; sound = s; known = are_in w p x h s e; all = g.0; done = g.1 })
+
+after_gather : {S E : Type 0} (IsSound : S → Type 0) (xs : List S) (w : WorldState) (p : ℕ) (place : ProcessState) (x : Presence) (told : Gathered) (m : ManagerState) (live : List Entry) (since : SinceState) → IsWorld IsSound xs w → p < length w.places
+    → IsOut w p place → (Sound w → IsTakenIn w p place x told m) → HasGathered {E = E} w.manager w.live (Ok told) m live → since ≡ since_after told w.live w.since → IsWorld IsSound xs (placed_with w p place live m since)
+after_gather IsSound xs w p place x told m live since i lt k takes g kept =
+    subst (λ l. IsWorld IsSound xs (placed_with w p place l m since)) (sym g.live) (subst (λ z. IsWorld IsSound xs (placed_with w p place (live_after told w.manager w.live) m z)) (sym kept) (record {
       shape = let h = shape_placed w p place i.shape k in record { few = h.few; stores = h.stores; cores = h.cores; places = h.places; own = h.own; rounds = h.rounds; there = h.there; inside = h.inside; manager = g.sound; size = g.size ∙ h.size };
       clean = λ known. let s = i.clean known in let t = takes s.1 in (s.0, sound_gathered (placed w p place) p x told m (shape_placed w p place i.shape k) (sound_placed w p place lt s.1 t.placing) t.entering t.gathers);
-    })
+      between = λ known free.
+          let s = i.clean known in let t = takes s.1 in
+          between_gathered (placed w p place) p x told m (shape_placed w p place i.shape k) (sound_placed w p place lt s.1 t.placing) t.entering t.gathers (i.between known) free;
+    }))
 
 -- ---- a failure
 other_place : (o : Option ProcessState) (a : Bool) (b : ProcessState) → o ≡ Some (ProcessState.Down a) → o ≡ Some b → ProcessState.Down a ≡ b
@@ -174,19 +188,19 @@ first_failed : (w : WorldState) (p : ℕ) (told : Gathered) (m : ManagerState) �
 first_failed w p told m s at (Fails.first new g) = g
 first_failed w p told m s at (Fails.again is e same) = absurd (not_failed w p s at is)
 
-pub after_declare : {S : Type 0} (IsSound : S → Type 0) (xs : List S) (w : WorldState) (p round : ℕ) (told : Gathered) (m : ManagerState) (live : List Entry) → IsWorld IsSound xs w → slice_get w.places p ≡ Some (ProcessState.Down false)
-    → round ≡ slice_index w.rounds p → Failing w.manager p round (Ok told) m → HasGathered {E = FailError} w.manager w.live (Ok told) m live → IsWorld IsSound xs (placed_with w p (ProcessState.Down true) live m)
-after_declare IsSound xs w p round told m live i at is f g =
+pub after_declare : {S : Type 0} (IsSound : S → Type 0) (xs : List S) (w : WorldState) (p round : ℕ) (told : Gathered) (m : ManagerState) (live : List Entry) (since : SinceState) → IsWorld IsSound xs w → slice_get w.places p ≡ Some (ProcessState.Down false)
+    → round ≡ slice_index w.rounds p → Failing w.manager p round (Ok told) m → HasGathered {E = FailError} w.manager w.live (Ok told) m live → since ≡ since_after told w.live w.since → IsWorld IsSound xs (placed_with w p (ProcessState.Down true) live m since)
+after_declare IsSound xs w p round told m live since i at is f g kept =
     let lt = inside w.places p (ProcessState.Down false) at in
-    after_gather IsSound xs w p (ProcessState.Down true) Failed told m live i lt (record { not_up = λ e. down_up true e; core = λ e. absurd (down_in true e) })
-    (λ s. record { placing = placing_down w p at; entering = entering_failed w p lt (sym is ∙ f.0.in_round); gathers = first_failed w p told m s at f.2 }) g
+    after_gather IsSound xs w p (ProcessState.Down true) Failed told m live since i lt (record { not_up = λ e. down_up true e; core = λ e. absurd (down_in true e) })
+    (λ s. record { placing = placing_down w p at; entering = entering_failed w p lt (sym is ∙ f.0.in_round); gathers = first_failed w p told m s at f.2 }) g kept
 
-pub has_declared : {S : Type 0} (IsSound : S → Type 0) (xs : List S) (w : WorldState) (p round : ℕ) (told : Gathered) (m : ManagerState) (live : List Entry) → IsWorld IsSound xs w → slice_get w.places p ≡ Some (ProcessState.Down false)
-    → Failing w.manager p round (Ok told) m → HasGathered {E = FailError} w.manager w.live (Ok told) m live → HasDeclaredAt w p (Ok told) (placed_with w p (ProcessState.Down true) live m)
-has_declared IsSound xs w p round told m live i at f g = record {
+pub has_declared : {S : Type 0} (IsSound : S → Type 0) (xs : List S) (w : WorldState) (p round : ℕ) (told : Gathered) (m : ManagerState) (live : List Entry) (since : SinceState) → IsWorld IsSound xs w → slice_get w.places p ≡ Some (ProcessState.Down false)
+    → Failing w.manager p round (Ok told) m → HasGathered {E = FailError} w.manager w.live (Ok told) m live → since ≡ since_after told w.live w.since → HasDeclaredAt w p (Ok told) (placed_with w p (ProcessState.Down true) live m since)
+has_declared IsSound xs w p round told m live since i at f g kept = record {
   size = g.size;
   released = g.released;
-  others = ap (λ l. placed_with w p (ProcessState.Down true) l m) g.live;
+  others = ap (λ l. placed_with w p (ProcessState.Down true) l m since) g.live ∙ ap (λ z. placed_with w p (ProcessState.Down true) (live_after told w.manager w.live) m z) kept;
   manager = λ known. first_failed w p told m (i.clean known).1 at f.2;
   refused = tt;
   why = λ known old. tt;
@@ -266,23 +280,23 @@ joins w p c told m h s up at may g =
     same_core : (o : Option (Option CoreState)) (d e : CoreState) → o ≡ Some (Some d) → o ≡ Some (Some e) → d ≡ e
     same_core o d e f g = once d e (once (Some d) (Some e) (sym f ∙ g))
 
-pub after_join : {S : Type 0} (IsSound : S → Type 0) (xs : List S) (w : WorldState) (p : ℕ) (at : ℕ × ℕ) (told : Gathered) (m : ManagerState) (live : List Entry) → IsWorld IsSound xs w → IsUp w p → StandsIn w.cores p at
-    → Joining w.manager p at.0 at.1 (Ok told) m → HasGathered {E = JoinError} w.manager w.live (Ok told) m live → IsWorld IsSound xs (placed_with w p ProcessState.In live m)
-after_join IsSound xs w p at told m live i up stands j g =
+pub after_join : {S : Type 0} (IsSound : S → Type 0) (xs : List S) (w : WorldState) (p : ℕ) (at : ℕ × ℕ) (told : Gathered) (m : ManagerState) (live : List Entry) (since : SinceState) → IsWorld IsSound xs w → IsUp w p → StandsIn w.cores p at
+    → Joining w.manager p at.0 at.1 (Ok told) m → HasGathered {E = JoinError} w.manager w.live (Ok told) m live → since ≡ since_after told w.live w.since → IsWorld IsSound xs (placed_with w p ProcessState.In live m since)
+after_join IsSound xs w p at told m live since i up stands j g kept =
     let lt = inside w.places p ProcessState.Up up in
     let c = stands.0 in
     let may = subst (MayJoin w.manager p) stands.2 j.0 in
     let gathers = subst (λ x. Gathers (with_joined w.manager p x) w.manager told m) stands.3 j.1 in
-    after_gather IsSound xs w p ProcessState.In (Joined c.now.interval) told m live i lt (record { not_up = λ e. in_up e; core = λ e. (c, stands.1) }) (λ s. joins w p c told m i.shape s up stands.1 may gathers) g
+    after_gather IsSound xs w p ProcessState.In (Joined c.now.interval) told m live since i lt (record { not_up = λ e. in_up e; core = λ e. (c, stands.1) }) (λ s. joins w p c told m i.shape s up stands.1 may gathers) g kept
 
-pub has_entered : (w : WorldState) (p : ℕ) (at : ℕ × ℕ) (told : Gathered) (m : ManagerState) (live : List Entry) → StandsIn w.cores p at → Joining w.manager p at.0 at.1 (Ok told) m → HasGathered {E = JoinError} w.manager w.live (Ok told) m live
-    → HasEntered w p (Ok told) (placed_with w p ProcessState.In live m)
-has_entered w p at told m live stands j g = record {
+pub has_entered : (w : WorldState) (p : ℕ) (at : ℕ × ℕ) (told : Gathered) (m : ManagerState) (live : List Entry) (since : SinceState) → StandsIn w.cores p at → Joining w.manager p at.0 at.1 (Ok told) m → HasGathered {E = JoinError} w.manager w.live (Ok told) m live → since ≡ since_after told w.live w.since
+    → HasEntered w p (Ok told) (placed_with w p ProcessState.In live m since)
+has_entered w p at told m live since stands j g kept = record {
   size = g.size;
   released = g.released;
   core = stands.0;
   there = stands.1;
-  others = ap (λ l. placed_with w p ProcessState.In l m) g.live;
+  others = ap (λ l. placed_with w p ProcessState.In l m since) g.live ∙ ap (λ z. placed_with w p ProcessState.In (live_after told w.manager w.live) m z) kept;
   manager = subst (λ x. Gathers (with_joined w.manager p x) w.manager told m) stands.3 j.1;
   refused = tt;
   memory = λ known opened. tt;

@@ -1,4 +1,4 @@
--- The stores of a settled world are true of its run, and can serve what was recovered.
+-- The stores of a world are true of the run that a restart needs, and can serve what was recovered.
 use Rattle.std.proofs.Common.{◌≡◌, ◌⊎◌, inl, inr, ℕ, zero, suc, ◌<◌, ◌≤◌, List, [], ◌∷◌, length, Some, None, Option, sym, ap, ◌∙◌, subst, arith}
 use Rattle.std.specs.Prelude.{slice_get, slice_index_or}
 use Rattle.std.specs.FinMap.{get}
@@ -6,21 +6,18 @@ use Rattle.om_format.specs.Checkpoints.{CheckpointRecord}
 use Rattle.om_format.specs.Receipts.{ReceiptRecord}
 use Rattle.om_format.proofs.Checkpoints.{one_checkpoint}
 use Rattle.om_format.proofs.Receipts.{one_receipt}
-use Rattle.om_manager.specs.State.{held_by, released_by}
 use Rattle.om_process.specs.Claims.{AtInterval, CheckpointOf, RecordOf}
 use Rattle.om_process.specs.Replays.{process_of}
 use Rattle.om_process.specs.Stored.{IsCheckpointAt, IsReceiptAt}
 use Rattle.om_recover.specs.Recoverable.{IsStable}
 use Rattle.om_stable.specs.Content.{Content, nothing}
-use Rattle.om_world.specs.Disk.{AreTrue, CanServe, IsOnDisk, IsSettled, held_in}
+use Rattle.om_world.specs.Disk.{AreTrue, CanServe, IsOnDisk, held_in}
 use Rattle.om_world.specs.Live.{program_at, received}
 use Rattle.om_world.specs.World.{WorldState, recovered}
 use Rattle.om_world.specs.steps.Sound.{EndsAt, HasShape, Sound}
-use Rattle.om_world.proofs.Gathering.{front_at, state_closed, within_at}
 use Rattle.om_world.proofs.Lists.{there}
-use Rattle.om_world.proofs.Raising.{recovery_row}
 use Rattle.om_world.proofs.Returning.{serves}
-use Rattle.om_world.proofs.TakenDown.{ended}
+use Rattle.om_world.specs.steps.Restarting.{CanRestart}
 
 pub index_at : (xs : List Content) (p : ℕ) (held : Content) → slice_get xs p ≡ Some held → slice_index_or xs p nothing ≡ held
 index_at [] p held at = cc
@@ -37,12 +34,12 @@ content_at w p h lt =
 none_held : (o : Option (List ℕ)) (bytes : List ℕ) → o ≡ None → o ≡ Some bytes → ⊥
 none_held o bytes none some = cc
 
--- ---- the records of processes that know the last round
-pub store_ends : (w : WorldState) (p : ℕ) → HasShape w → Sound w → IsSettled w → p < length w.programs → EndsAt (held_in w p) (length (received p w.live))
-store_ends w p h s settled lt = ended w p (held_in w p) h s (elim (settled p lt) [ inl up ↦ λ news. let same = s.current p up in absurd (omega arith) | inr none ↦ none ]) (content_at w p h lt)
+-- ---- the records of its stores
+pub store_ends : (w : WorldState) (p : ℕ) → HasShape w → CanRestart w → p < length w.programs → EndsAt (held_in w p) (length (received p w.live))
+store_ends w p h s lt = s.ends p (held_in w p) (content_at w p h lt)
 
-pub world_true : (w : WorldState) → HasShape w → Sound w → IsSettled w → AreTrue w.programs w.live (held_in w)
-world_true w h s settled = record { checkpoints = checkpoints; receipts = receipts }
+pub world_true : (w : WorldState) → HasShape w → CanRestart w → AreTrue w.programs w.live (held_in w)
+world_true w h s = record { checkpoints = checkpoints; receipts = receipts }
   where
     n : ℕ
     n = length w.programs
@@ -52,7 +49,7 @@ world_true w h s settled = record { checkpoints = checkpoints; receipts = receip
 
     checkpoints : (p x : ℕ) (c : CheckpointRecord) → p < n → IsCheckpointAt (held_in w p).checkpoints x c → AtInterval (received p w.live) x (CheckpointOf (program_at w.programs p) p n (process_of c))
     checkpoints p x c lt at =
-        let ends = store_ends w p h s settled lt in
+        let ends = store_ends w p h s lt in
         let le : x ≤ length (received p w.live) = elim (below x (length (received p w.live))) [
           | inl le ↦ le
           | inr above ↦ absurd (none_held (get (held_in w p).checkpoints x) at.0 (ends.checkpoints x above) at.1)
@@ -63,7 +60,7 @@ world_true w h s settled = record { checkpoints = checkpoints; receipts = receip
 
     receipts : (p x : ℕ) (r : ReceiptRecord) → p < n → 1 ≤ x → IsReceiptAt (held_in w p).receipts x r → AtInterval (received p w.live) x (RecordOf (program_at w.programs p) p n r)
     receipts p x r lt begun at =
-        let ends = store_ends w p h s settled lt in
+        let ends = store_ends w p h s lt in
         let le : x ≤ length (received p w.live) = elim (below x (length (received p w.live))) [
           | inl le ↦ le
           | inr above ↦ absurd (none_held (get (held_in w p).receipts x) at.0 (ends.receipts x above) at.1)
@@ -81,17 +78,13 @@ recovery_served w p h s lt =
     record { from = store.0; below = store.1.within; checkpoint = store.1.checkpoint; receipts = store.1.receipts }
 
 -- ---- what a world leaves
-pub on_disk : (w : WorldState) → HasShape w → Sound w → IsSettled w → IsOnDisk w
-on_disk w h s settled = record {
+pub on_disk : (w : WorldState) → HasShape w → CanRestart w → IsOnDisk w
+on_disk w h s = record {
   legal = s.legal;
-  held = world_true w h s settled;
-  places = h.size;
-  last = λ p lt. let row = recovery_row w p h lt in let few = h.manager.lawful.numbered row.0 row.1 in let at = row.3 in omega arith;
-  served = λ p lt. recovery_served w p h s lt;
-  within = λ p q other. state_closed w p q h s other;
-  released = λ p i o lt at.
-      let size = h.size in
-      let front = h.manager.released p (omega arith) in
-      let was : slice_get (held_by w.manager p) i ≡ Some o = ap (λ l. slice_get l i) (sym front.1) ∙ front_at (released_by w.manager p) front.0 i o at in
-      (within_at (held_by w.manager p) (recovered w.manager p) i o at, s.outputs p i o was);
+  held = world_true w h s;
+  places = s.places;
+  last = s.last;
+  served = s.served;
+  within = s.within;
+  released = s.released;
 }

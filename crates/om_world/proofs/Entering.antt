@@ -84,7 +84,7 @@ handed_over w mid v z p count end up h t k known =
             (ap (λ (x : WorldState). x.rounds) k.others ∙ ap (λ (x : WorldState). x.rounds) stays)
             (ap (λ (x : WorldState). x.origins) k.others ∙ ap (λ (x : WorldState). x.origins) stays);
       };
-      stored = (s.0, s.1, s.2, s.3, ap (λ (x : WorldState). x.contents) k.others ∙ s.4);
+      stored = (s.0, s.1, s.2, s.3, ap (λ (x : WorldState). x.contents) k.others ∙ s.4, ap (λ (x : WorldState). x.since) k.others ∙ s.5);
       told = v.manager;
       noted = subst (λ rows. AreTold w.manager w.manager.round p rows v.manager) (take_all count rest.pending (omega arith)) n.0.manager;
       handed = k.more;

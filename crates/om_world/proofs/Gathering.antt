@@ -69,7 +69,7 @@ pub record AreIn (w : WorldState) (presences : List Presence) : Type 0 where
 abbrev pub now_in : WorldState → ℕ → Presence → List Presence
 now_in w p presence = set (presences_of w.manager.gathering) p presence
 
-are_in : (w : WorldState) (p : ℕ) (x : Presence) → HasShape w → Sound w → IsEntering w p x → AreIn w (now_in w p x)
+pub are_in : (w : WorldState) (p : ℕ) (x : Presence) → HasShape w → Sound w → IsEntering w p x → AreIn w (now_in w p x)
 are_in w p x h s e = record {
   up = λ q up. elim (in_set (presences_of w.manager.gathering) p q x) [
     | inl here ↦ absurd (e.not_up (subst (λ o. slice_get w.places o ≡ Some ProcessState.Up) here.0 up))
@@ -90,10 +90,10 @@ are_in w p x h s e = record {
 }
 
 -- ---- what is claimed of a process goes on
-abbrev past_with : Past → List Entry → ManagerState → Past
+abbrev pub past_with : Past → List Entry → ManagerState → Past
 past_with v live m = record { programs = v.programs; live = live; manager = m }
 
-record Goes (v : Past) (live : List Entry) (m : ManagerState) : Type 0 where
+pub record Goes (v : Past) (live : List Entry) (m : ManagerState) : Type 0 where
   pub counts : (p q : ℕ) → count_from p (take (recovered v.manager q) (history v q)) ≤ count_from p (take (recovered m q) (received q live))
   pub released : (p : ℕ) → length (released_by v.manager p) ≤ length (released_by m p)
   pub old : (p : ℕ) (kind : RowKind) (x : ℕ) → IsOld v.manager p kind x → IsOld m p kind x
@@ -360,7 +360,7 @@ not_named w presences m q d lt runs = elim runs [
   | inr stays ↦ let same = round_of w presences m q d lt in let next = d.done.round in stays.1 (omega arith)
 ]
 
-goes_finished : (w : WorldState) (presences : List Presence) (m : ManagerState) → AreDone w presences m → Goes (past_of w) (cut_list (recovered w.manager) w.live) m
+pub goes_finished : (w : WorldState) (presences : List Presence) (m : ManagerState) → AreDone w presences m → Goes (past_of w) (cut_list (recovered w.manager) w.live) m
 goes_finished w presences m d =
     let f = d.done in
     let R = recovered w.manager in

@@ -16,7 +16,8 @@ use Rattle.om_world.specs.Changes.{IsUp}
 use Rattle.om_world.specs.Happened.{GiveHappened, Happened}
 use Rattle.om_world.specs.World.{WorldState, entry_of}
 use Rattle.om_world.specs.steps.Moves.{IsOfferedAt, after_offer, answered}
-use Rattle.om_world.specs.steps.Sound.{IsWorld, HasShape}
+use Rattle.om_world.specs.steps.Sound.{IsWorld, HasShape, before_of}
+use Rattle.om_world.proofs.Between.{between_given}
 use Rattle.om_world.proofs.Kept.{remade, shape_core, sound_taken}
 use Rattle.om_world.proofs.Lists.{once}
 use Rattle.om_world.proofs.Raising.{recovery_within}
@@ -51,6 +52,7 @@ after_give IsSound xs w p f x m e cs live i up frame is offer more =
     (record {
       shape = shape_core w e.to c (taken c m) (w.live ++ e ∷ []) w.frames w.manager w.contents w.health i.shape (subst (λ o. slice_get w.cores o ≡ Some (Some c)) mine at) refl (length-set _ c.own _ ∙ length-set c.now.vec m.from _) refl i.shape.manager refl;
       clean = λ all. let s = i.clean all in (s.0, sound_taken w f m e c i.shape s.1 (recovery_within w i.shape s.1) frame is (subst (λ o. slice_get w.places o ≡ Some ProcessState.Up) mine up) (subst (λ o. slice_get w.cores o ≡ Some (Some c)) mine at) due);
+      between = λ all free. between_given (before_of w) w.live w.contents e (recovery_within w i.shape (i.clean all).1) (i.between all free);
     }))
 
 pub given_taken : (w : WorldState) (p f x : ℕ) (m : Message) (e : Entry) (cs : List (Option CoreState)) (live : List Entry) → IsUp w p

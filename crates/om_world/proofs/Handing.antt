@@ -1,6 +1,6 @@
 -- Outputs that are handed in.
 use Rattle.std.proofs.Common.{◌≡◌, ◌⊎◌, inl, inr, ℕ, zero, suc, ◌+◌, ◌-◌, ◌≤◌, ◌<◌, List, [], ◌∷◌, ◌++◌, length, take, drop, replicate, get_or, Some, Result, Ok, Err, refl, sym, ap, ◌∙◌, subst, arith, length-append}
-use Rattle.std.specs.Prelude.{max, slice_get, slice_set, OnOk, IfErr}
+use Rattle.std.specs.Prelude.{max, slice_get, slice_set, OnOk, IfErr, slice_index}
 use Rattle.std.proofs.lemmas.List.{append_assoc, append-nil, get_or-set_same, get_or-set_other, length-drop, set-get_or, set-set, take-take}
 use Rattle.om_format.specs.declared.queue.QueueEntry.{QueueEntry}
 use Rattle.om_format.specs.Queues.{QueueRecord}
@@ -31,13 +31,14 @@ use Rattle.om_world.specs.Live.{program_at}
 use Rattle.om_world.specs.World.{WorldState, output_entry}
 use Rattle.om_world.specs.steps.Past.{Past, past_of, history}
 use Rattle.om_world.specs.steps.Running.{AreHanded, AreHandedUpTo, HasHandedIn, IsHanded, held_as, offer_of, outputs_from}
-use Rattle.om_world.specs.steps.Sound.{HasShape, IsCoreOf, IsRunning, IsWorld, Sound}
+use Rattle.om_world.specs.steps.Sound.{HasShape, IsCoreOf, IsRunning, IsWorld, Sound, before_of}
 use Rattle.om_world.proofs.Keeping.{keeps_same, prefix_then}
 use Rattle.om_world.proofs.Kept.{remade, shape_same}
 use Rattle.om_world.proofs.Lists.{either, inside, none_in, once, there}
 use Rattle.om_world.proofs.Raising.{less, sound_manager}
 use Rattle.om_world.proofs.Released.{made_stays, split_at}
-use Rattle.om_world.proofs.Telling.{goes_on_by}
+use Rattle.om_world.proofs.Telling.{goes_on_by, released_all}
+use Rattle.om_world.proofs.Between.{between_more}
 
 -- ---- outputs are made in the order of their numbers
 abbrev FromZero : List QueueRecord → Type 0
@@ -337,6 +338,7 @@ after_handed IsSound xs w p end m i up n =
     record {
       shape = shape_same w w.live w.frames m w.contents w.health i.shape refl more.2 more.3;
       clean = λ all. let s = i.clean all in (s.0, (is_held w p c end m i.shape s.1 up n.1 t).sound);
+      between = λ all free. between_more (before_of w) m w.live w.contents (λ q. ap (λ r. slice_index r q) (ap (λ (k : ManagerState). k.recovery) more.0.1)) (λ q lt. released_all w.manager m i.shape.manager more.1 q) (i.between all free);
     }
 
 all_held : (w : WorldState) (p : ℕ) (c : CoreState) (end : Result (Unit {0}) OutputError) (m : ManagerState) → (t : AreHandedUpTo w.manager c.round p (outputs_from c (length (held_by w.manager p))) end m) → IsHeld w p c t.count m

@@ -39,7 +39,7 @@ use Rattle.om_world.proofs.Lists.{none_in, once, at_change, set_apart, there, in
 
 -- a world with these parts changed
 abbrev pub remade : WorldState → List Entry → List Message → List (Option CoreState) → ManagerState → List Content → List Health → WorldState
-remade w live frames cores manager contents health = record { programs = w.programs; live = live; frames = frames; cores = cores; places = w.places; rounds = w.rounds; manager = manager; contents = contents; health = health; origins = w.origins }
+remade w live frames cores manager contents health = record { programs = w.programs; live = live; frames = frames; cores = cores; places = w.places; rounds = w.rounds; manager = manager; contents = contents; health = health; origins = w.origins; since = w.since }
 
 -- ---- the shape
 pub shape_same : (w : WorldState) (live : List Entry) (frames : List Message) (m : ManagerState) (contents : List Content) (health : List Health) → HasShape w → length contents ≡ length w.contents → IsManager m → process_count m ≡ process_count w.manager

@@ -9,6 +9,7 @@ pub mod Lists
 pub mod Moved
 pub mod NotRunning
 pub mod Noting
+pub mod Pending
 pub mod Ordered
 pub mod Playing
 pub mod Raising
@@ -54,3 +55,8 @@ pub mod Seats
 pub mod Acting
 pub mod Rising
 pub mod Seating
+pub mod Remembering
+pub mod StoppingLemmas
+pub mod TakingUp
+pub mod Between
+pub mod Leaving

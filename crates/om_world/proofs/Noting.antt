@@ -1,6 +1,6 @@
 -- A world whose process stores, and whose manager is told.
 use Rattle.std.proofs.Common.{◌≡◌, ◌⊎◌, inl, inr, ℕ, zero, suc, ◌+◌, ◌<◌, List, [], ◌∷◌, length, take, drop, map, set, Option, Some, None, Bool, true, false, Result, Ok, Err, refl, sym, ap, ◌∙◌, subst, arith, length-set}
-use Rattle.std.specs.Prelude.{slice_get, slice_index_or, IfErr, IsSome}
+use Rattle.std.specs.Prelude.{slice_get, slice_index_or, IfErr, IsSome, OnOk}
 use Rattle.std.specs.FinMap.{get}
 use Rattle.om_stable.specs.Content.{Content, IsTaken}
 use Rattle.om_stable.specs.declared.error.StoreError.{StoreError}
@@ -18,20 +18,22 @@ use Rattle.om_recover.specs.declared.row.RowKind.TheVariants.{Checkpoint, Log}
 use Rattle.om_manager.specs.State.{ManagerState}
 use Rattle.om_manager.specs.declared.answers.RecordError.{RecordError}
 use Rattle.om_manager.specs.declared.answers.RecordError.TheVariants.{Refused}
-use Rattle.om_world.specs.Changes.{IsUp, row_for, stored}
-use Rattle.om_world.specs.World.{Health, WorldState, IsKnown, all_clean}
+use Rattle.om_world.specs.Changes.{IsUp, row_for, stored, has_rows, has_stored}
+use Rattle.om_world.specs.World.{Health, WorldState, IsKnown, all_clean, SinceState}
 use Rattle.om_world.specs.steps.Past.{Past, past_of, history}
-use Rattle.om_world.specs.steps.Moves.{AreTold, Gained, IsCalled, IsTold, IsToldUpTo, HasCalled, HasTold, IsOfLog, after_store}
-use Rattle.om_world.specs.steps.Sound.{HasBytes, HasShape, IsOld, IsPending, IsWorld, Sound, kind_of}
+use Rattle.om_world.specs.steps.Moves.{AreTold, Gained, IsCalled, IsTold, IsToldUpTo, HasCalled, HasTold, IsOfLog, TellsStored, after_store, since_called}
+use Rattle.om_world.specs.steps.Sound.{HasBytes, HasShape, IsOld, IsPending, IsWorld, Sound, kind_of, IsBetween, before_of}
 use Rattle.om_world.proofs.FailureCounts.{called_counts, counted}
 use Rattle.om_world.proofs.Gaining.{sound_store, sound_clean}
 use Rattle.om_world.proofs.Giving.{given_at}
 use Rattle.om_world.proofs.Kept.{remade, shape_core, shape_same, sound_core}
 use Rattle.om_world.proofs.Lists.{clean_before, inside, length-map, map_at, map_set, none_in, once, same_map, sound_at, sound_set, there}
 use Rattle.om_world.proofs.Ordered.{notes_refused}
+use Rattle.om_world.proofs.Pending.{gained_nothing, not_so, same_manager, stored_if}
 use Rattle.om_world.proofs.Raising.{GoesOn, sound_manager}
 use Rattle.om_take_up.proofs.RowsLemmas.{told_rows}
 use Rattle.om_world.proofs.Telling.{told_goes_on, told_outputs}
+use Rattle.om_world.proofs.Between.{shape_since, sound_since, stored_apart}
 
 -- ---- one row
 -- what is true of a pending row, as the manager is told it
@@ -127,9 +129,9 @@ known_after w p count end m c h s up at t =
     let all = all_told w m c.round p store.0 (take count c.pending) h s store.1 (λ i row f. r.pending i row (at_take c.pending count i row f)) t.told in
     (all.0, all.1, all.2, λ i row f. (store.0, all.3 row (r.pending i row f)))
 
-pub after_note : {S : Type 0} (IsSound : S → Type 0) (xs : List S) (w : WorldState) (p count : ℕ) (end : Result (Unit {0}) RecordError) (m : ManagerState) (cs : List (Option CoreState)) → IsWorld IsSound xs w → IsUp w p → IsNotedIn w p count end m cs
+pub after_note : {S : Type 0} (IsSound : S → Type 0) (xs : List S) (w : WorldState) (p count : ℕ) (end : Result (Unit {0}) RecordError) (m : ManagerState) (cs : List (Option CoreState)) → IsWorld IsSound xs w → IsUp w p → TellsStored w p → IsNotedIn w p count end m cs
     → IsWorld IsSound xs (remade w w.live w.frames cs m w.contents w.health)
-after_note IsSound xs w p count end m cs i up n =
+after_note IsSound xs w p count end m cs i up since n =
     let c = n.0 in let at = n.1 in let t = n.2 in
     let d = with_pending c (drop count c.pending) in
     let h = shape_all w m c.round p (take count c.pending) i.shape t.told in
@@ -141,6 +143,9 @@ after_note IsSound xs w p count end m cs i up n =
             sound_core (with_m w m) p c d k.1 at (λ held r. record { state = r.state; kept = r.kept; log = r.log; pending = λ j row f. r.pending (count + j) row (at_drop c.pending count j row f); above = record { receipts = r.above.receipts; checkpoints = r.above.checkpoints } })
                 (λ u. record { round = u.round; starts = u.starts; inc = u.inc; away = u.away }) refl refl,
           );
+      between = λ all free.
+          let none = not_so (has_rows c.pending) w.since.stored (since.tells c at) free in
+          subst (λ k. IsBetween (before_of (with_m w k)) w.live w.contents) (sym (same_manager c.pending count c.round p w.manager m none t.told)) (i.between all free);
     })
 
 refused_memory : (w : WorldState) (p count : ℕ) (end : Result (Unit {0}) RecordError) (m : ManagerState) (c : CoreState) → HasShape w → Sound w → IsUp w p → slice_get w.cores p ≡ Some (Some c) → IsToldUpTo w.manager c.round p c.pending count end m → IfErr end (λ fault. fault ≡ Refused Memory)
@@ -173,6 +178,30 @@ has_told IsSound xs w p count end m cs i up n = record {
 }
 
 -- ---- a store that was called
+-- the world once it is kept that a process has stored
+abbrev pub with_since : Batch → CoreState → Result (Unit {0}) StoreError → WorldState → WorldState
+with_since kind c answer w = record w { since = since_called kind c answer w.since }
+
+world_stored : {S : Type 0} (IsSound : S → Type 0) (xs : List S) (w : WorldState) (b : Bool) → IsWorld IsSound xs w → IsWorld IsSound xs (record w { since = has_stored b w.since })
+world_stored IsSound xs w true i = record {
+  shape = shape_since w (has_stored true w.since) i.shape;
+  clean = λ known. let s = i.clean known in (s.0, sound_since w (has_stored true w.since) s.1);
+  between = λ known free. absurd (stored_apart true refl free);
+}
+world_stored IsSound xs w false i = i
+
+pub world_since : {S : Type 0} (IsSound : S → Type 0) (xs : List S) (w : WorldState) (kind : Batch) (c : CoreState) (answer : Result (Unit {0}) StoreError) → IsWorld IsSound xs w → IsWorld IsSound xs (with_since kind c answer w)
+world_since IsSound xs w kind c (Ok done) i = world_stored IsSound xs w (has_rows (stored kind c).pending) i
+world_since IsSound xs w kind c (Err why) i = i
+
+-- where rows of the process are pending once it has stored, it is kept that one has
+abbrev pub KeepsStored : Batch → List (Option CoreState) → ℕ → SinceState → Result (Unit {0}) StoreError → Type 0
+KeepsStored kind cs p since answer = OnOk answer ((c : CoreState) → slice_get cs p ≡ Some (Some c) → has_rows (stored kind c).pending ≡ true → since.stored ≡ true)
+
+pub stored_since : (kind : Batch) (cs : List (Option CoreState)) (p : ℕ) (c : CoreState) → slice_get cs p ≡ Some (Some c) → (answer : Result (Unit {0}) StoreError) (since : SinceState) → KeepsStored kind cs p (since_called kind c answer since) answer
+stored_since kind cs p c at (Ok done) since = λ d is rows. stored_if (has_rows (stored kind c).pending) since (ap (λ x. has_rows (stored kind x).pending) (once c d (once (Some c) (Some d) (sym at ∙ is))) ∙ rows)
+stored_since kind cs p c at (Err why) since = tt
+
 abbrev pub IsCalledIn : {S : Type 0} → (S → Content) → (S → Health) → (S → Type 0) → Batch → List (Option CoreState) → ℕ → Result (Unit {0}) StoreError → List S → List S → List (Option CoreState) → Type 0
 IsCalledIn content health IsSound kind cores p answer xs ys cs = (c : CoreState) × (slice_get cores p ≡ Some (Some c)) × (cs ≡ set cores p (Some (after_store kind c answer))) × IsCalled content health IsSound (answer ≡ Err Fault) xs ys p (Gained kind c answer)
 
@@ -185,8 +214,8 @@ same_stored (batches.First k) c = (refl, refl)
 same_stored batches.Checkpoint c = (refl, refl)
 
 pub after_called : {S : Type 0} (content : S → Content) (health : S → Health) (IsSound : S → Type 0) (kind : Batch) (w : WorldState) (p : ℕ) (answer : Result (Unit {0}) StoreError) (xs ys : List S) (cs : List (Option CoreState))
-    → IsWorld IsSound xs (over content health w xs w.cores) → IsUp w p → IsCalledIn content health IsSound kind w.cores p answer xs ys cs → IsWorld IsSound ys (over content health w ys cs)
-after_called content health IsSound kind w p (Ok done) xs ys cs i up n =
+    → IsWorld IsSound xs (over content health w xs w.cores) → IsUp w p → KeepsStored kind w.cores p w.since answer → IsCalledIn content health IsSound kind w.cores p answer xs ys cs → IsWorld IsSound ys (over content health w ys cs)
+after_called content health IsSound kind w p (Ok done) xs ys cs i up since n =
     let c = n.0 in let at = n.1 in let k = n.3 in
     let same = same_stored kind c in
     subst (λ l. IsWorld IsSound l (over content health w l cs)) (sym k.stores) (subst (λ l. IsWorld IsSound (set xs p k.after) (over content health w (set xs p k.after) l)) (sym n.2) (record {
@@ -200,8 +229,14 @@ after_called content health IsSound kind w p (Ok done) xs ys cs i up n =
             subst (λ l. Sound (remade w w.live w.frames (set w.cores p (Some (stored kind c))) w.manager l (map health (set xs p k.after)))) (map_set content xs p k.after)
                 (sound_store kind (over content health w xs w.cores) p (content k.before) (content k.after) c (map health (set xs p k.after)) i.shape s.1 at (map_at content xs p k.before k.there) (inl up) (k.did before.1 was)),
           );
+      between = λ all free.
+          let before = clean_before health xs p k.before k.after k.there k.clean all.1 in
+          let s = i.clean (all.0, before.0) in
+          let was = sound_at IsSound xs p k.before s.0 k.there in
+          let none = not_so (has_rows (stored kind c).pending) w.since.stored (since c at) free in
+          subst (IsBetween (before_of w) w.live) (same_map content xs p k.before k.after k.there (gained_nothing kind c (content k.before) (content k.after) none (k.did before.1 was))) (i.between (all.0, before.0) free);
     }))
-after_called content health IsSound kind w p (Err why) xs ys cs i up n =
+after_called content health IsSound kind w p (Err why) xs ys cs i up since n =
     let c = n.0 in let at = n.1 in let k = n.3 in
     let back = n.2 ∙ given_at w.cores p c at in
     subst (λ l. IsWorld IsSound l (over content health w l cs)) (sym k.stores) (subst (λ l. IsWorld IsSound (set xs p k.after) (over content health w (set xs p k.after) l)) (sym back) (record {
@@ -215,6 +250,11 @@ after_called content health IsSound kind w p (Err why) xs ys cs i up n =
             subst (λ l. Sound (remade w w.live w.frames w.cores w.manager l (map health (set xs p k.after)))) (same_map content xs p k.before k.after k.there (same_content kind c why (content k.before) (content k.after) (k.did before.1 was)))
                 (sound_clean (over content health w xs w.cores) (map content xs) (map health xs) (map health (set xs p k.after)) s.1),
           );
+      between = λ all free.
+          let before = clean_before health xs p k.before k.after k.there k.clean all.1 in
+          let s = i.clean (all.0, before.0) in
+          let was = sound_at IsSound xs p k.before s.0 k.there in
+          subst (IsBetween (before_of w) w.live) (same_map content xs p k.before k.after k.there (same_content kind c why (content k.before) (content k.after) (k.did before.1 was))) (i.between (all.0, before.0) free);
     }))
   where
     same_content : (kind : Batch) (c : CoreState) (why : StoreError) (a b : Content) → Gained kind c (Err why) a b → b ≡ a
@@ -224,11 +264,12 @@ after_called content health IsSound kind w p (Err why) xs ys cs i up n =
 
 -- what the call did, as the world is told it
 pub has_called : {S : Type 0} (content : S → Content) (health : S → Health) (IsSound : S → Type 0) (kind : Batch) (w : WorldState) (p : ℕ) (answer : Result (Unit {0}) StoreError) (xs ys : List S) (cs : List (Option CoreState))
-    → IsWorld IsSound xs (over content health w xs w.cores) → IsUp w p → IsCalledIn content health IsSound kind w.cores p answer xs ys cs → HasCalled kind (over content health w xs w.cores) p answer (over content health w ys cs)
+    → IsWorld IsSound xs (over content health w xs w.cores) → IsUp w p → (n : IsCalledIn content health IsSound kind w.cores p answer xs ys cs) → HasCalled kind (over content health w xs w.cores) p answer (with_since kind n.0 answer (over content health w ys cs))
 has_called content health IsSound kind w p answer xs ys cs i up n = record {
   core = n.0;
   there = n.1;
-  others = ap (λ l. over content health w ys l) n.2;
+  others = ap (λ l. with_since kind n.0 answer (over content health w ys l)) n.2;
+  since = refl;
   did = λ all. let d = done all in (content n.3.before, content n.3.after, d.0, d.1, d.2);
   was_clean = λ all. let k = n.3 in (clean_before health xs p k.before k.after k.there k.clean (subst (λ zs. all_clean (map health zs) ≡ true) k.stores all)).0;
   counted = counted content health IsSound p xs ys (Gained kind n.0 answer) n.3;

@@ -25,7 +25,7 @@ use Rattle.om_world.specs.World.{Health, WorldState, IsEmpty, IsKnown, recovered
 use Rattle.om_world.specs.steps.Past.{Past, history, past_of}
 use Rattle.om_world.specs.steps.Moves.{IsCalled, Keeps, refusal_of_store}
 use Rattle.om_world.specs.steps.Pruning.{AllPruned, ArePruned, HasPruned, ManagerPruned, WasPruned}
-use Rattle.om_world.specs.steps.Sound.{EndsAt, HasBytes, IsBefore, IsOld, IsRunning, IsStored, IsWorld, Runs, Sound, kind_of}
+use Rattle.om_world.specs.steps.Sound.{EndsAt, HasBytes, IsBefore, IsOld, IsRunning, IsStored, IsWorld, Runs, Sound, kind_of, IsBetween, before_of}
 use Rattle.om_world.proofs.FailureCounts.{called_counts, counted, counts_stay, counts_then, failed_after, memory_apart, present_apart}
 use Rattle.om_world.proofs.Gaining.{sound_clean}
 use Rattle.om_world.proofs.Keeping.{keeps_same}
@@ -34,6 +34,8 @@ use Rattle.om_world.proofs.Lists.{at_change, clean_before, either, inside, lengt
 use Rattle.om_world.proofs.Noting.{over}
 use Rattle.om_world.proofs.Raising.{GoesOn, less, sound_manager}
 use Rattle.om_world.proofs.Recording.{set_back}
+use Rattle.om_world.proofs.Between.{between_more, between_pruned}
+use Rattle.om_world.specs.declared.entry.Entry.{Entry}
 
 -- ---- the manager
 lower : (kind : RowKind) (x c e : ℕ) → c ≤ e → IsBefore kind x c → IsBefore kind x e
@@ -81,6 +83,7 @@ after_pruned IsSound xs w m i pruned is = record {
             (λ p k o at. s.1.outputs p k o (ap (λ (x : ManagerState). slice_get (held_by x p) k) (sym pruned.others) ∙ at))
             (λ row has. inl (of_pruned w.manager.rows pruned.rows.0 row (subst (λ rows. HasRow rows row) pruned.rows.2 has)).0),
       );
+  between = λ all free. between_more (before_of w) m w.live w.contents (λ q. ap (λ (k : ManagerState). recovered k q) pruned.others) (λ q lt. (goes_on w.manager m i.shape.manager pruned).released q) (i.between all free);
 }
 
 -- ---- one store
@@ -199,6 +202,10 @@ sound_either w p c (Ok done) a b health s at e is = sound_pruned w p c a b healt
 sound_either w p c (Err why) a b health s at e is =
     subst (λ l. Sound (remade w w.live w.frames w.cores w.manager l health)) (sym (ap (set w.contents p) is ∙ set_back w.contents p a at)) (sound_clean w w.contents w.health health s)
 
+between_either : (v : Past) (live : List Entry) (contents : List Content) (p c : ℕ) (answer : Result (Unit {0}) StoreError) (a b : Content) → slice_get contents p ≡ Some a → WasPruned c answer a b → IsBetween v live contents → IsBetween v live (set contents p b)
+between_either v live contents p c (Ok done) a b at is old = subst (λ d. IsBetween v live (set contents p d)) (sym is) (between_pruned v live contents p c a at old)
+between_either v live contents p c (Err why) a b at is old = subst (IsBetween v live) (sym (ap (set contents p) is ∙ set_back contents p a at)) old
+
 pub after_pruned_store : {S : Type 0} (content : S → Content) (health : S → Health) (IsSound : S → Type 0) (w : WorldState) (p c : ℕ) (answer : Result (Unit {0}) StoreError) (xs ys : List S)
     → IsWorld IsSound xs (over content health w xs w.cores) → IsPrunedIn content health IsSound w p c answer xs ys → IsWorld IsSound ys (over content health w ys w.cores)
 after_pruned_store content health IsSound w p c answer xs ys i n =
@@ -214,6 +221,12 @@ after_pruned_store content health IsSound w p c answer xs ys i n =
             subst (λ l. Sound (remade w w.live w.frames w.cores w.manager l (map health (set xs p k.after)))) (map_set content xs p k.after)
                 (sound_either (over content health w xs w.cores) p c answer (content k.before) (content k.after) (map health (set xs p k.after)) s.1 (map_at content xs p k.before k.there) n.0 (k.did before.1 was)),
           );
+      between = λ all free.
+          let before = clean_before health xs p k.before k.after k.there k.clean all.1 in
+          let s = i.clean (all.0, before.0) in
+          let was = sound_at IsSound xs p k.before s.0 k.there in
+          subst (IsBetween (before_of w) w.live) (map_set content xs p k.after)
+          (between_either (before_of w) w.live (map content xs) p c answer (content k.before) (content k.after) (map_at content xs p k.before k.there) (k.did before.1 was) (i.between (all.0, before.0) free));
     })
 
 pub has_pruned : {S : Type 0} (content : S → Content) (health : S → Health) (IsSound : S → Type 0) (w : WorldState) (p c : ℕ) (answer : Result (Unit {0}) StoreError) (xs ys : List S)

@@ -29,14 +29,14 @@ use Rattle.om_take_up.proofs.HandingLemmas.{released_held}
 use Rattle.om_world.specs.declared.entry.Entry.{Entry}
 use Rattle.om_world.specs.declared.event.Refusal.TheVariants as why
 use Rattle.om_world.specs.Changes.{HasFailed}
-use Rattle.om_world.specs.Disk.{IsSettled, held_in}
+use Rattle.om_world.specs.Disk.{held_in}
 use Rattle.om_world.specs.Started.{IsNew}
 use Rattle.om_world.specs.World.{Health, IsEmpty, IsKnown, WorldState, all_clean}
-use Rattle.om_world.specs.steps.Members.{content_in, core_in, health_in, health_of, place_in, round_in, seen, sound_in}
+use Rattle.om_world.specs.steps.Members.{Besides, content_in, core_in, health_in, health_of, place_in, round_in, seen, sound_in}
 use Rattle.om_world.specs.steps.Moves.{IsCalled, refusal_of_record}
 use Rattle.om_world.specs.steps.Restarting.{HasLearned, HasRead, HasRowsUpTo, HasToldStores, IsRefusal, refusal_of_rows, refusal_of_take_up}
 use Rattle.om_world.specs.steps.Running.{refusal_of_output}
-use Rattle.om_world.specs.steps.Sound.{IsWorld, Sound}
+use Rattle.om_world.specs.steps.Sound.{IsBetween, IsWorld, Sound, before_of}
 use Rattle.om_world.proofs.Beginning.{index_same}
 use Rattle.om_world.proofs.Disk.{index_at}
 use Rattle.om_world.proofs.FailureCounts.{called_counts, counted, counts_stay, counts_then, failed_after}
@@ -49,6 +49,8 @@ use Rattle.om_take_up.specs.steps.Telling.{IsToldRows}
 use Rattle.om_take_up.proofs.RowsLemmas.{AreAdded, are_added}
 use Rattle.om_world.proofs.RowsTold.{no_rows, one_store}
 use Rattle.om_world.proofs.Seats.{called_in, restored}
+use Rattle.om_world.specs.Stopped.{IsLeft, IsWhole, AreCurrent}
+use Rattle.om_world.specs.Failures.{HasNews}
 
 abbrev IsSame : Content → Content → Type 0
 IsSame before after = after ≡ before
@@ -74,6 +76,9 @@ module _ {S Failed : Type 0} (content : S → Content) (health : S → Health) (
               (subst (λ zs. AllByRecursion IsSound zs) (sym k.stores) (sound_set IsSound xs p k.after s.0 (k.sound before.1 was))),
               subst (λ l. Sound (remade w w.live w.frames w.cores w.manager l (map health ys))) (sym (same_contents all)) (sound_clean w (map content xs) (map health xs) (map health ys) s.1),
             );
+        between = λ all free.
+            let before = clean_before health xs p k.before k.after k.there k.clean (subst (λ zs. all_clean (map health zs) ≡ true) k.stores all.1) in
+            subst (IsBetween (before_of w) w.live) (sym (same_contents all)) (i.between (all.0, before.0) free);
       }
 
   pub has_read_store : HasRead (over content health w xs w.cores) (over content health w ys w.cores)
@@ -85,7 +90,7 @@ module _ {S Failed : Type 0} (content : S → Content) (health : S → Health) (
   }
 
 -- ---- in a world
-module _ {S : Type 0} (content : S → Content) (is_clean : S → Bool) (failed : S → ℕ) (IsSound : S → Type 0) (P : List Program) (L : List Entry) (F : List Message) (ms : List (Member S)) (M : ManagerState) (O : List Content) (p : ℕ) (m : Member S) (at : slice_get ms p ≡ Some m) (n : Member S) (v : WorldState)
+module _ {S : Type 0} (content : S → Content) (is_clean : S → Bool) (failed : S → ℕ) (IsSound : S → Type 0) (P : List Program) (L : List Entry) (F : List Message) (ms : List (Member S)) (M : ManagerState) (O : Besides) (p : ℕ) (m : Member S) (at : slice_get ms p ≡ Some m) (n : Member S) (v : WorldState)
     (i : IsWorld (sound_in IsSound) ms (seen content (health_of is_clean failed) P L F ms M O)) (e : seen content (health_of is_clean failed) P L F ms M O ≡ v) (others : n ≡ record m { store = n.store })
     (Failed : Type 0) (used : UsesStore failed is_clean IsSound m.store Failed n.store) (same : IsCleanCall is_clean IsSound m.store n.store → content n.store ≡ content m.store) where
   abbrev pub seen_before : WorldState
@@ -139,8 +144,29 @@ held_same old new r known p = ap (λ l. slice_index_or l p nothing) (sym (r.same
 pub same_but : (old mid : WorldState) → HasRead old mid → IsKnown mid → mid ≡ record old { health = mid.health }
 same_but old mid r known = r.others ∙ ap (λ c. record old { contents = c; health = mid.health }) (r.same known)
 
-pub settled_after : (old mid : WorldState) → HasRead old mid → IsSettled old → IsSettled mid
-settled_after old mid r settled = subst IsSettled (sym r.others) settled
+pub current_after : (old mid : WorldState) → HasRead old mid → AreCurrent old → AreCurrent mid
+current_after old mid r current = subst AreCurrent (sym r.others) current
+
+pub news_after : (old mid : WorldState) → HasRead old mid → ((p : ℕ) × (p < length old.programs) × HasNews old p) → (p : ℕ) × (p < length mid.programs) × HasNews mid p
+news_after old mid r news = subst (λ (w : WorldState). (p : ℕ) × (p < length w.programs) × HasNews w p) (sym r.others) news
+
+pub left_with : (w : WorldState) (run : List Entry) (contents : List Content) (health : List Health) → IsLeft w run → IsLeft (record w { contents = contents; health = health }) run
+left_with w run contents health (IsLeft.current none is) = IsLeft.current none is
+left_with w run contents health (IsLeft.between p lt news free is) = IsLeft.between p lt news free is
+
+pub left_after : (old mid : WorldState) (run : List Entry) → HasRead old mid → IsLeft old run → IsLeft mid run
+left_after old mid run r left = subst (λ (w : WorldState). IsLeft w run) (sym r.others) (left_with old run mid.contents mid.health left)
+
+-- and the other way round
+pub left_back : (old mid : WorldState) (run : List Entry) → HasRead old mid → IsLeft mid run → IsLeft old run
+left_back old mid run r left = by (subst (λ (w : WorldState). IsLeft w run) r.others left)
+  where
+    by : IsLeft (record old { contents = mid.contents; health = mid.health }) run → IsLeft old run
+    by (IsLeft.current none is) = IsLeft.current none is
+    by (IsLeft.between p lt news free is) = IsLeft.between p lt news free is
+
+pub whole_after : (old mid : WorldState) → HasRead old mid → IsWhole old → IsWhole mid
+whole_after old mid r whole = (whole.0, left_after old mid whole.0 r whole.1)
 
 pub failed_read : (old mid new : WorldState) (p : ℕ) → HasRead old mid → HasFailed mid p new → HasFailed old p new
 failed_read old mid new p r f = failed_after old.health mid.health new.health p r.counts f

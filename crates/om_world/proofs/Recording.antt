@@ -43,7 +43,8 @@ is_same : (kind : Batch) (w v : WorldState) (p : ℕ) (fault : StoreError) → H
 is_same kind w v p fault h all =
     let d = h.did all in
     let contents : v.contents ≡ w.contents = d.3 ∙ ap (set w.contents p) (same_content kind h.core fault d.0 d.1 d.4) ∙ set_back w.contents p d.0 d.2 in
-    h.others ∙ ap (λ cs. record w { cores = cs; contents = v.contents; health = v.health }) (given_at w.cores p h.core h.there) ∙ ap (λ l. record w { contents = l; health = v.health }) contents
+    h.others ∙ ap (λ cs. record w { cores = cs; contents = v.contents; health = v.health; since = v.since }) (given_at w.cores p h.core h.there) ∙ ap (λ l. record w { contents = l; health = v.health; since = v.since }) contents
+    ∙ ap (λ z. record w { health = v.health; since = z }) h.since
 
 pub store_refused : (kind : Batch) (w v : WorldState) (p : ℕ) (fault : StoreError) → IsUp w p → HasCalled kind w p (Err fault) v → IsKnown v → Happened w (event_of kind p) (answers.Refused (refusal_of_store fault)) v
 store_refused Log w v p store_errors.Present up h all = absurd (h.free all tt refl)
@@ -72,7 +73,7 @@ pub known_mid : (mid v : WorldState) (p count : ℕ) (end : Result (Unit {0}) Re
 known_mid mid v p count end t all = (subst (All IsEmpty) (ap (λ (x : WorldState). x.origins) t.others) all.0, ap all_clean (sym (clean_mid mid v p count end t)) ∙ all.1)
 
 pub has_stored : (kind : Batch) (w mid v : WorldState) (p count : ℕ) (end : Result (Unit {0}) RecordError) → HasCalled kind w p (Ok tt) mid → HasTold mid p count end v → (h : HasCalled kind w p (Ok tt) mid) → IsKnown mid → HasStored kind w p h.core v
-has_stored kind w mid v p count end _ t h all = let d = h.did all in (d.0, d.1, d.2, d.4, ap (λ (x : WorldState). x.contents) t.others ∙ d.3)
+has_stored kind w mid v p count end _ t h all = let d = h.did all in (d.0, d.1, d.2, d.4, ap (λ (x : WorldState). x.contents) t.others ∙ d.3, ap (λ (x : WorldState). x.since) t.others ∙ h.since)
 
 pub has_noted : (kind : Batch) (w mid v : WorldState) (p count : ℕ) (end : Result (Unit {0}) RecordError) → IsUp w p → (h : HasCalled kind w p (Ok tt) mid) → HasTold mid p count end v
     → HasNoted w p h.core (stored kind h.core) count v × IsToldUpTo mid.manager (stored kind h.core).round p (stored kind h.core).pending count end v.manager
@@ -141,7 +142,7 @@ only_spelled w v p up h all =
       refl,
       record {
         core = h.core;
-        gained = (d.0, d.1, d.2, d.4, d.3);
+        gained = (d.0, d.1, d.2, d.4, d.3, h.since);
         changes = record {
           up = up;
           before = h.there;

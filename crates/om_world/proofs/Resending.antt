@@ -89,6 +89,7 @@ after_frames IsSound xs w p c few n fs i up at is = subst (λ l. IsWorld IsSound
       beyond = s.1.beyond;
     },
   );
+  between = i.between;
 })
 
 -- no message became a frame

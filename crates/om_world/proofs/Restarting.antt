@@ -24,23 +24,25 @@ use Rattle.om_manager.specs.declared.presence.Presence.{Presence}
 use Rattle.om_manager.specs.declared.presence.Presence.TheVariants.{Away, Failed, Joined}
 use Rattle.om_take_up.specs.Anew.{OnlyFailed}
 use Rattle.om_world.specs.declared.process_state.ProcessState.{ProcessState}
-use Rattle.om_world.specs.Disk.{IsSettled, held_in}
-use Rattle.om_world.specs.Failures.{HasNews, gathered}
+use Rattle.om_world.specs.Disk.{held_in}
+use Rattle.om_world.specs.Failures.{gathered}
+use Rattle.om_world.specs.Live.{cut_list}
 use Rattle.om_world.specs.StoreRows.{HasRowsOf}
 use Rattle.om_world.specs.World.{WorldState, recovered}
 use Rattle.om_world.specs.steps.Past.{Past, history, past_of}
-use Rattle.om_world.specs.steps.Sound.{HasBytes, HasShape, IsOld, IsStored, KeptWithin, Sound}
+use Rattle.om_world.specs.steps.Sound.{HasBytes, HasShape, IsBetween, IsOld, IsStored, KeptWithin, Sound}
 use Rattle.om_world.proofs.Backing.{row_backed}
 use Rattle.om_world.proofs.Beginning.{index_same, same_at}
-use Rattle.om_world.proofs.Disk.{content_at, recovery_served, world_true}
-use Rattle.om_world.proofs.Gathering.{front_at, held_inside, sound_finished, within_at}
+use Rattle.om_world.proofs.Between.{between_finished}
+use Rattle.om_world.proofs.Disk.{content_at, world_true}
+use Rattle.om_world.proofs.Gathering.{AreDone, held_inside, past_with, sound_finished, within_at}
 use Rattle.om_world.proofs.Lists.{inside, none_in, once}
 use Rattle.om_world.proofs.Losing.{has_checkpoint}
 use Rattle.om_world.proofs.Raising.{count_take, further, recovery_row}
 use Rattle.om_world.proofs.Serving.{rows_serve}
-use Rattle.om_world.proofs.TakenDown.{ended}
 use Rattle.om_world.proofs.Telling.{below_all}
 use Rattle.om_world.proofs.TrueRows.{rows_are_true}
+use Rattle.om_world.specs.steps.Restarting.{CanRestart}
 
 -- all that runs is gone, and the manager is this one
 abbrev pub put_down : WorldState → ManagerState → WorldState
@@ -63,22 +65,22 @@ pub record Starts (w : WorldState) (m : ManagerState) : Type 0 where
   pub waiting : OnlyFailed (length w.programs) (presences_of m.gathering)
 
 -- ---- lists of one element
-none_up : (n p : ℕ) (place : ProcessState) → (ProcessState.Down true ≡ place → ⊥) → slice_get (replicate n (ProcessState.Down true)) p ≡ Some place → ⊥
+pub none_up : (n p : ℕ) (place : ProcessState) → (ProcessState.Down true ≡ place → ⊥) → slice_get (replicate n (ProcessState.Down true)) p ≡ Some place → ⊥
 none_up n p place apart at = apart (sym (same_at n p (ProcessState.Down true) place at))
 
-down_up : ProcessState.Down true ≡ ProcessState.Up → ⊥
+pub down_up : ProcessState.Down true ≡ ProcessState.Up → ⊥
 down_up e = cc
 
-down_in : ProcessState.Down true ≡ ProcessState.In → ⊥
+pub down_in : ProcessState.Down true ≡ ProcessState.In → ⊥
 down_in e = cc
 
-no_core : (n p : ℕ) (c : CoreState) → slice_get (replicate n None) p ≡ Some (Some c) → ⊥
+pub no_core : (n p : ℕ) (c : CoreState) → slice_get (replicate n None) p ≡ Some (Some c) → ⊥
 no_core n p c at = apart (same_at n p None (Some c) at)
   where
     apart : Some c ≡ None → ⊥
     apart e = cc
 
-at_place : {A : Type 0} (n p : ℕ) (x : A) → p < n → slice_get (replicate n x) p ≡ Some x
+pub at_place : {A : Type 0} (n p : ℕ) (x : A) → p < n → slice_get (replicate n x) p ≡ Some x
 at_place zero p x lt = absurd (omega arith)
 at_place (suc n) zero x lt = refl
 at_place (suc n) (suc p) x lt = at_place n p x (omega arith)
@@ -93,7 +95,7 @@ failed_away : (a : Presence) → a ≡ Failed → a ≡ Away → ⊥
 failed_away a e f = cc
 
 -- ---- what was released stays so
-within_all : (xs : List HeldOutput) (limit : ℕ) → ((i : ℕ) (o : HeldOutput) → slice_get xs i ≡ Some o → o.interval ≤ limit) → within xs limit ≡ xs
+pub within_all : (xs : List HeldOutput) (limit : ℕ) → ((i : ℕ) (o : HeldOutput) → slice_get xs i ≡ Some o → o.interval ≤ limit) → within xs limit ≡ xs
 within_all [] limit all = refl
 within_all (x ∷ xs) limit all =
     let le = all 0 x refl in
@@ -126,7 +128,7 @@ stored_anew w m p held k lt s = record {
 }
 
 -- ---- a row of the new manager has its record, or is checkpoint 0 behind which a later one stands
-backed_anew : (w : WorldState) (m : ManagerState) (row : Row) (held : Content) → HasShape w → Sound w → Starts w m → HasRow m.rows row → slice_get w.contents row.pid ≡ Some held → HasBytes held row.kind row.interval ⊎ IsOld m row.pid row.kind row.interval
+backed_anew : (w : WorldState) (m : ManagerState) (row : Row) (held : Content) → HasShape w → CanRestart w → Starts w m → HasRow m.rows row → slice_get w.contents row.pid ≡ Some held → HasBytes held row.kind row.interval ⊎ IsOld m row.pid row.kind row.interval
 backed_anew w m row held h s k has at =
     let told = k.rows.only row has in
     let p = row.pid in
@@ -138,7 +140,7 @@ backed_anew w m row held h s k has at =
       | inl first ↦
           let row_at = recovery_row w p h told.0 in
           let few = h.manager.lawful.numbered row_at.0 row_at.1 in let there = row_at.3 in
-          let serve = rows_serve p n (held_in w p) (k.rows.told p) (recovered w.manager p) (omega arith) (recovery_served w p h s told.0) (k.rows.of_store p told.0) in
+          let serve = rows_serve p n (held_in w p) (k.rows.told p) (recovered w.manager p) (omega arith) (s.served p told.0) (k.rows.of_store p told.0) in
           let checkpoint = has_checkpoint n (held_in w) m.rows p serve.0 k.rows told.0 serve.2 in
           let more = below_all w.manager.recovery m.recovery p k.kept in
           let low = serve.1 in
@@ -176,20 +178,16 @@ shape_down w m h size sound = record {
   size = size;
 }
 
-settled_news : (w : WorldState) (p : ℕ) → Sound w → IsSettled w → p < length w.programs → HasNews w p → ⊥
-settled_news w p s settled lt news = elim (settled p lt) [ inl up ↦ let same = s.current p up in absurd (omega arith) | inr none ↦ none news ]
-
-sound_down : (w : WorldState) (m : ManagerState) → HasShape w → Sound w → IsSettled w → Starts w m → Sound (put_down w m)
-sound_down w m h s settled k = record {
+sound_down : (w : WorldState) (m : ManagerState) → HasShape w → CanRestart w → Starts w m → Sound (put_down w m)
+sound_down w m h s k = record {
   legal = s.legal;
   frames = λ i f at. absurd (none_in i f at);
   outputs = λ p i o at.
       let many = k.sound.places in let size = k.size in let old_size = h.size in
       let lt : p < n = let short = held_inside m.outputs p i o at in omega arith in
       let here : slice_get (released_by w.manager p) i ≡ Some o = ap (λ l. slice_get l i) (sym (k.outputs p lt)) ∙ at in
-      let front = h.manager.released p (omega arith) in
-      s.outputs p i o (ap (λ l. slice_get l i) (sym front.1) ∙ front_at (released_by w.manager p) front.0 i o here);
-  rows = λ row has. rows_are_true w.programs w.live (held_in w) m.rows row (world_true w h s settled) k.rows has;
+      (s.released p i o lt here).1;
+  rows = λ row has. rows_are_true w.programs w.live (held_in w) m.rows row (world_true w h s) k.rows has;
   stored = λ p held at. let stores = h.stores in let short = inside w.contents p held at in stored_anew w m p held k (omega arith) (s.stored p held at);
   backed = λ row held has at. backed_anew w m row held h s k has at;
   running = λ p c held at. absurd (no_core n p c at);
@@ -199,9 +197,7 @@ sound_down w m h s settled k = record {
   gathered = λ p some. index_same n p 0 ∙ sym k.round;
   current = λ p up. absurd (none_up n p ProcessState.Up down_up up);
   known = λ p. no_more (slice_index (replicate n 0) p) m.round (index_same n p 0);
-  ends = λ p declared held place old at.
-      let stores = h.stores in let short = inside w.contents p held at in
-      ended w p held h s (settled_news w p s settled (omega arith)) at;
+  ends = λ p declared held place old at. s.ends p held at;
   behind = λ p lt news. absurd (let first = k.round in omega arith);
   inside = λ p c at. absurd (no_core n p c at);
   beyond = λ p c at. absurd (no_core n p c at);
@@ -214,11 +210,11 @@ sound_down w m h s settled k = record {
     no_more a b e = omega arith
 
 -- ---- and with the last
-pub sound_started : (w : WorldState) (m new : ManagerState) (presences : List Presence) → HasShape w → Sound w → IsSettled w → Starts w m → OnlyFailed (length w.programs) presences → AreAllIn (process_count m) presences → Finishes presences m new
-    → Sound (gathered (put_down w m) Finished new)
-sound_started w m new presences h s settled k only all done = sound_finished (put_down w m) presences new (record {
+done_started : (w : WorldState) (m new : ManagerState) (presences : List Presence) → HasShape w → CanRestart w → Starts w m → OnlyFailed (length w.programs) presences → AreAllIn (process_count m) presences → Finishes presences m new
+    → AreDone (put_down w m) presences new
+done_started w m new presences h s k only all done = record {
   shape = shape_down w m h k.size k.sound;
-  sound = sound_down w m h s settled k;
+  sound = sound_down w m h s k;
   known = record {
     up = λ q up. absurd (none_up (length w.programs) q ProcessState.Up down_up up);
     round = λ q some. index_same (length w.programs) q 0 ∙ sym k.round;
@@ -227,4 +223,12 @@ sound_started w m new presences h s settled k only all done = sound_finished (pu
   };
   all = all;
   done = done;
-})
+}
+
+pub sound_started : (w : WorldState) (m new : ManagerState) (presences : List Presence) → HasShape w → CanRestart w → Starts w m → OnlyFailed (length w.programs) presences → AreAllIn (process_count m) presences → Finishes presences m new
+    → Sound (gathered (put_down w m) Finished new)
+sound_started w m new presences h s k only all done = sound_finished (put_down w m) presences new (done_started w m new presences h s k only all done)
+
+pub between_started : (w : WorldState) (m new : ManagerState) (presences : List Presence) → HasShape w → CanRestart w → Starts w m → OnlyFailed (length w.programs) presences → AreAllIn (process_count m) presences → Finishes presences m new
+    → IsBetween (past_with (past_of w) w.live new) (cut_list (recovered m) w.live) w.contents
+between_started w m new presences h s k only all done = between_finished (put_down w m) presences new (done_started w m new presences h s k only all done)

@@ -13,7 +13,8 @@ use Rattle.om_world.specs.Failures.{HasNews, IsToGoOn}
 use Rattle.om_world.specs.World.{Health, WorldState, IsKnown, all_clean}
 use Rattle.om_world.specs.steps.Moves.{IsCalled}
 use Rattle.om_world.specs.steps.Returning.{IsBackIn, IsRolledBack, KnowsRound, Returns}
-use Rattle.om_world.specs.steps.Sound.{IsWorld, Sound}
+use Rattle.om_world.specs.steps.Sound.{IsBetween, IsWorld, Sound, before_of}
+use Rattle.om_world.proofs.Between.{between_cut}
 use Rattle.om_world.proofs.FailureCounts.{called_counts, counted}
 use Rattle.om_world.proofs.Gaining.{sound_clean}
 use Rattle.om_world.proofs.Kept.{remade, shape_same}
@@ -35,6 +36,7 @@ up_as w p cores round contents health = record {
   contents = contents;
   health = health;
   origins = w.origins;
+  since = w.since;
 }
 
 -- ---- it went on as it was
@@ -48,6 +50,7 @@ after_on IsSound xs w p round cores i lt due knows is =
     (subst (λ l. IsWorld IsSound xs (up_as w p l w.manager.round w.contents w.health)) (sym knows.2) (record {
       shape = shape_back w p d w.contents w.health i.shape lt o.own o.size refl;
       clean = λ known. let s = i.clean known in (s.0, sound_on w p c i.shape s.1 lt due knows.1);
+      between = i.between;
     }))
 
 -- ---- its store was called
@@ -96,6 +99,10 @@ after_back content health IsSound w p round core xs ys i lt news b k is = subst 
         subst (λ l. Sound (come_back w p core l (map health ys))) (sym (c.contents ∙ ap (set (map content xs) p) c.did.1))
             (sound_back (over content health w xs w.cores) p (content k.before) core (map health ys) i.shape c.sound lt news c.there b c.did.0),
       );
+  between = λ all free.
+      let c = called content health IsSound w p xs ys (IsRolledBack w.manager p (Ok core)) i k all in
+      subst (IsBetween (before_of w) w.live) (sym (c.contents ∙ ap (set (map content xs) p) c.did.1))
+      (between_cut (before_of w) w.live (map content xs) p (slice_index w.manager.last p) (content k.before) c.there (i.between c.known free));
 })
 
 pub has_come_back : {S : Type 0} (content : S → Content) (health : S → Health) (IsSound : S → Type 0) (w : WorldState) (p round interval inc : ℕ) (core : CoreState) (xs ys : List S) → IsWorld IsSound xs (over content health w xs w.cores) → p < length w.programs → HasNews w p → IsBackIn w.manager p core
@@ -136,6 +143,9 @@ after_fault content health IsSound w p fault xs ys i k = record {
         subst (λ l. Sound (remade w w.live w.frames w.cores w.manager l (map health ys))) (sym (same_contents content health IsSound w p fault xs ys i k all))
             (sound_clean (over content health w xs w.cores) (map content xs) (map health xs) (map health ys) c.sound),
       );
+  between = λ all free.
+      let c = called content health IsSound w p xs ys (IsRolledBack w.manager p (Err fault)) i k all in
+      subst (IsBetween (before_of w) w.live) (sym (same_contents content health IsSound w p fault xs ys i k all)) (i.between c.known free);
 }
 
 pub stays_down : {S : Type 0} (content : S → Content) (health : S → Health) (IsSound : S → Type 0) (w : WorldState) (p : ℕ) (fault : ReplayFault) (xs ys : List S) → IsWorld IsSound xs (over content health w xs w.cores) → p < length w.programs → HasNews w p

@@ -31,11 +31,11 @@ use Rattle.om_world.specs.declared.event.Refusal.{Refusal}
 use Rattle.om_world.specs.declared.event.Refusal.TheVariants as why
 use Rattle.om_world.specs.declared.process_state.ProcessState.{ProcessState}
 use Rattle.om_world.specs.Changes.{IsUp}
-use Rattle.om_world.specs.Failures.{HasNews, IsToGoOn, live_after, taken_down}
+use Rattle.om_world.specs.Failures.{HasNews, IsToGoOn, live_after, taken_down, since_after}
 use Rattle.om_world.specs.Live.{cut_list}
-use Rattle.om_world.specs.World.{Health, WorldState}
+use Rattle.om_world.specs.World.{Health, WorldState, SinceState}
 use Rattle.om_world.specs.steps.Gathering.{HasDeclaredAt, HasEntered, HasGathered, StandsIn}
-use Rattle.om_world.specs.steps.Members.{content_in, core_in, health_in, place_in, place_of, round_in, seen, sound_in, health_of}
+use Rattle.om_world.specs.steps.Members.{Besides, content_in, core_in, health_in, place_in, place_of, round_in, seen, sound_in, health_of}
 use Rattle.om_world.specs.steps.Moves.{IsCalled, refusal_of_join, told_of}
 use Rattle.om_world.specs.steps.Returning.{IsBackIn, IsRolledBack, KnowsRound, Returns}
 use Rattle.om_world.specs.Failures.{HasGoneOn}
@@ -57,7 +57,7 @@ live_fails told old q new live f = elim f [
   | again failed waits same ↦ ap (λ (k : ManagerState). live_after told k live) same
 ]
 
-module _ {S : Type 0} (content : S → Content) (health : S → Health) (IsSound : S → Type 0) (P : List Program) (L : List Entry) (F : List Message) (ms : List (Member S)) (M : ManagerState) (O : List Content) (p : ℕ) (m : Member S) (at : slice_get ms p ≡ Some m) (n : Member S) (v : WorldState) (i : IsWorld (sound_in IsSound) ms (seen content health P L F ms M O)) (e : seen content health P L F ms M O ≡ v) where
+module _ {S : Type 0} (content : S → Content) (health : S → Health) (IsSound : S → Type 0) (P : List Program) (L : List Entry) (F : List Message) (ms : List (Member S)) (M : ManagerState) (O : Besides) (p : ℕ) (m : Member S) (at : slice_get ms p ≡ Some m) (n : Member S) (v : WorldState) (i : IsWorld (sound_in IsSound) ms (seen content health P L F ms M O)) (e : seen content health P L F ms M O ≡ v) where
   -- ---- it failed
   module _ (others : n ≡ record m { standing = stands.Down false }) where
     down_seen : taken_down (seen content health P L F ms M O) p false ≡ seen content health P L F (set ms p n) M O
@@ -86,29 +86,29 @@ module _ {S : Type 0} (content : S → Content) (health : S → Health) (IsSound
         of_down (stands.In core) d = cc
         of_down (stands.Down declared) d = refl
 
-    module _ (told : Gathered) (h : HasDeclared M q m (Ok told) k n) (live : List Entry) (cut : live ≡ live_after told k L) where
+    module _ (told : Gathered) (h : HasDeclared M q m (Ok told) k n) (live : List Entry) (cut : live ≡ live_after told k L) (since : SinceState) (kept : since ≡ since_after told L O.since) where
       failing : Failing M p m.round (Ok told) k
       failing = subst (λ x. Failing M x m.round (Ok told) k) is h.failing
 
       gathered : HasGathered {E = FailError} M L (Ok told) k live
       gathered = record { sound = h.keeps.sound; size = sym h.keeps.below.same_places; released = h.keeps.released; live = cut ∙ live_fails told M p k L failing.2; refused = tt }
 
-      declared_seen : placed_with (seen content health P L F ms M O) p (ProcessState.Down true) live k ≡ seen content health P live F (set ms p n) k O
+      declared_seen : placed_with (seen content health P L F ms M O) p (ProcessState.Down true) live k since ≡ seen content health P live F (set ms p n) k (record O { since = since })
       declared_seen =
-          ap (λ l. record (placed_with (seen content health P L F ms M O) p (ProcessState.Down true) live k) { cores = l }) (set_core content health IsSound P L F ms M O p m at n ∙ ap (set (map core_in ms) p) no_core)
-          ∙ ap (λ l. record (placed_with (seen content health P L F ms M O) p (ProcessState.Down true) live k) { cores = set (map core_in ms) p None; rounds = l }) (sym (set_round content health IsSound P L F ms M O p m at n))
-          ∙ placed_as content health IsSound P L F ms M O p m at n None (ProcessState.Down true) m.round (ap core_in h.declared) (ap place_in h.declared) (ap round_in h.declared) (ap (λ (x : Member S). x.store) h.declared) live k
+          ap (λ l. record (placed_with (seen content health P L F ms M O) p (ProcessState.Down true) live k since) { cores = l }) (set_core content health IsSound P L F ms M O p m at n ∙ ap (set (map core_in ms) p) no_core)
+          ∙ ap (λ l. record (placed_with (seen content health P L F ms M O) p (ProcessState.Down true) live k since) { cores = set (map core_in ms) p None; rounds = l }) (sym (set_round content health IsSound P L F ms M O p m at n))
+          ∙ placed_as content health IsSound P L F ms M (record O { since = since }) p m at n None (ProcessState.Down true) m.round (ap core_in h.declared) (ap place_in h.declared) (ap round_in h.declared) (ap (λ (x : Member S). x.store) h.declared) live k
 
-      pub after_declared : IsWorld (sound_in IsSound) (set ms p n) (seen content health P live F (set ms p n) k O)
+      pub after_declared : IsWorld (sound_in IsSound) (set ms p n) (seen content health P live F (set ms p n) k (record O { since = since }))
       after_declared =
-          still content health IsSound P L F ms M O p m at n (ap (λ (x : Member S). x.store) h.declared) (seen content health P live F (set ms p n) k O)
+          still content health IsSound P L F ms M O p m at n (ap (λ (x : Member S). x.store) h.declared) (seen content health P live F (set ms p n) k (record O { since = since }))
           (subst (IsWorld (sound_in IsSound) ms) declared_seen
-          (after_declare (sound_in IsSound) ms (seen content health P L F ms M O) p m.round told k live i was_down (round_is content health IsSound P L F ms M O p m at) failing gathered))
+          (after_declare (sound_in IsSound) ms (seen content health P L F ms M O) p m.round told k live since i was_down (round_is content health IsSound P L F ms M O p m at) failing gathered kept))
 
-      pub was_declared : HasDeclaredAt v p (Ok told) (seen content health P live F (set ms p n) k O)
+      pub was_declared : HasDeclaredAt v p (Ok told) (seen content health P live F (set ms p n) k (record O { since = since }))
       was_declared =
-          subst (λ (x : WorldState). HasDeclaredAt x p (Ok told) (seen content health P live F (set ms p n) k O)) e
-          (subst (HasDeclaredAt (seen content health P L F ms M O) p (Ok told)) declared_seen (has_declared (sound_in IsSound) ms (seen content health P L F ms M O) p m.round told k live i was_down failing gathered))
+          subst (λ (x : WorldState). HasDeclaredAt x p (Ok told) (seen content health P live F (set ms p n) k (record O { since = since }))) e
+          (subst (HasDeclaredAt (seen content health P L F ms M O) p (Ok told)) declared_seen (has_declared (sound_in IsSound) ms (seen content health P L F ms M O) p m.round told k live since i was_down failing gathered kept))
 
     module _ (fault : FailError) (h : HasDeclared M q m (Err fault) k n) where
       refused : HasDeclaredAt (seen content health P L F ms M O) p (Err fault) (seen content health P L F ms k O)
@@ -128,7 +128,7 @@ module _ {S : Type 0} (content : S → Content) (health : S → Health) (IsSound
     was_up_there : IsUp (seen content health P L F ms M O) p
     was_up_there = subst (λ (x : WorldState). IsUp x p) (sym e) up
 
-    module _ (told : Gathered) (h : HasJoined M q m (Ok told) k n) (live : List Entry) (cut : live ≡ live_after told k L) where
+    module _ (told : Gathered) (h : HasJoined M q m (Ok told) k n) (live : List Entry) (cut : live ≡ live_after told k L) (since : SinceState) (kept : since ≡ since_after told L O.since) where
       stands_so : StandsIn (map core_in ms) p (h.core.round, h.core.now.interval)
       stands_so = (h.core, core_was content health IsSound P L F ms M O p m at n h.core h.up, refl, refl)
 
@@ -138,21 +138,21 @@ module _ {S : Type 0} (content : S → Content) (health : S → Health) (IsSound
       joined : HasGathered {E = JoinError} M L (Ok told) k live
       joined = record { sound = h.keeps.sound; size = sym h.keeps.below.same_places; released = h.keeps.released; live = cut ∙ live_gathers told _ M k L joining.1; refused = tt }
 
-      joined_seen : placed_with (seen content health P L F ms M O) p ProcessState.In live k ≡ seen content health P live F (set ms p n) k O
+      joined_seen : placed_with (seen content health P L F ms M O) p ProcessState.In live k since ≡ seen content health P live F (set ms p n) k (record O { since = since })
       joined_seen =
-          ap (λ l. record (placed_with (seen content health P L F ms M O) p ProcessState.In live k) { cores = l }) (set_core content health IsSound P L F ms M O p m at n ∙ ap (λ s. set (map core_in ms) p (core_of s)) h.up)
-          ∙ ap (λ l. record (placed_with (seen content health P L F ms M O) p ProcessState.In live k) { cores = set (map core_in ms) p (Some h.core); rounds = l }) (sym (set_round content health IsSound P L F ms M O p m at n))
-          ∙ placed_as content health IsSound P L F ms M O p m at n (Some h.core) ProcessState.In m.round (ap core_in h.joined) (ap place_in h.joined) (ap round_in h.joined) (ap (λ (x : Member S). x.store) h.joined) live k
+          ap (λ l. record (placed_with (seen content health P L F ms M O) p ProcessState.In live k since) { cores = l }) (set_core content health IsSound P L F ms M O p m at n ∙ ap (λ s. set (map core_in ms) p (core_of s)) h.up)
+          ∙ ap (λ l. record (placed_with (seen content health P L F ms M O) p ProcessState.In live k since) { cores = set (map core_in ms) p (Some h.core); rounds = l }) (sym (set_round content health IsSound P L F ms M O p m at n))
+          ∙ placed_as content health IsSound P L F ms M (record O { since = since }) p m at n (Some h.core) ProcessState.In m.round (ap core_in h.joined) (ap place_in h.joined) (ap round_in h.joined) (ap (λ (x : Member S). x.store) h.joined) live k
 
-      pub after_joined : IsWorld (sound_in IsSound) (set ms p n) (seen content health P live F (set ms p n) k O)
+      pub after_joined : IsWorld (sound_in IsSound) (set ms p n) (seen content health P live F (set ms p n) k (record O { since = since }))
       after_joined =
-          still content health IsSound P L F ms M O p m at n (ap (λ (x : Member S). x.store) h.joined) (seen content health P live F (set ms p n) k O)
-          (subst (IsWorld (sound_in IsSound) ms) joined_seen (after_join (sound_in IsSound) ms (seen content health P L F ms M O) p (h.core.round, h.core.now.interval) told k live i was_up_there stands_so joining joined))
+          still content health IsSound P L F ms M O p m at n (ap (λ (x : Member S). x.store) h.joined) (seen content health P live F (set ms p n) k (record O { since = since }))
+          (subst (IsWorld (sound_in IsSound) ms) joined_seen (after_join (sound_in IsSound) ms (seen content health P L F ms M O) p (h.core.round, h.core.now.interval) told k live since i was_up_there stands_so joining joined kept))
 
-      pub was_joined : HasEntered v p (Ok told) (seen content health P live F (set ms p n) k O)
+      pub was_joined : HasEntered v p (Ok told) (seen content health P live F (set ms p n) k (record O { since = since }))
       was_joined =
-          subst (λ (x : WorldState). HasEntered x p (Ok told) (seen content health P live F (set ms p n) k O)) e
-          (subst (HasEntered (seen content health P L F ms M O) p (Ok told)) joined_seen (has_entered (seen content health P L F ms M O) p (h.core.round, h.core.now.interval) told k live stands_so joining joined))
+          subst (λ (x : WorldState). HasEntered x p (Ok told) (seen content health P live F (set ms p n) k (record O { since = since }))) e
+          (subst (HasEntered (seen content health P L F ms M O) p (Ok told)) joined_seen (has_entered (seen content health P L F ms M O) p (h.core.round, h.core.now.interval) told k live since stands_so joining joined kept))
 
     module _ (fault : JoinError) (h : HasJoined M q m (Err fault) k n) where
       not_joined : HasEntered (seen content health P L F ms M O) p (Err fault) (seen content health P L F ms k O)
@@ -175,11 +175,11 @@ module _ {S : Type 0} (content : S → Content) (health : S → Health) (IsSound
       took : (t : Result Gathered Refusal) (told : Gathered) → t ≡ told_of refusal_of_join r → t ≡ Ok told → HasJoined M q m (Ok told) k n
       took t told is was = subst (λ a. HasJoined M q m a k n) (told_ok refusal_of_join asked.0 t told (is ∙ ap (told_of refusal_of_join) asked.1) was) asked.2
 
-      pub after_enter : (t : Result Gathered Refusal) (told : Gathered) → t ≡ told_of refusal_of_join r → t ≡ Ok told → (live : List Entry) → live ≡ live_after told k L → IsWorld (sound_in IsSound) (set ms p n) (seen content health P live F (set ms p n) k O)
-      after_enter t told is was live cut = after_joined told (took t told is was) live cut
+      pub after_enter : (t : Result Gathered Refusal) (told : Gathered) → t ≡ told_of refusal_of_join r → t ≡ Ok told → (live : List Entry) → live ≡ live_after told k L → (since : SinceState) → since ≡ since_after told L O.since → IsWorld (sound_in IsSound) (set ms p n) (seen content health P live F (set ms p n) k (record O { since = since }))
+      after_enter t told is was live cut since kept = after_joined told (took t told is was) live cut since kept
 
-      pub entered : (t : Result Gathered Refusal) (told : Gathered) → t ≡ told_of refusal_of_join r → t ≡ Ok told → (live : List Entry) → live ≡ live_after told k L → (a : Result Gathered JoinError) × HasEntered v p a (seen content health P live F (set ms p n) k O) × (Ok told ≡ told_of refusal_of_join (Ok a))
-      entered t told is was live cut = (Ok told, was_joined told (took t told is was) live cut, refl)
+      pub entered : (t : Result Gathered Refusal) (told : Gathered) → t ≡ told_of refusal_of_join r → t ≡ Ok told → (live : List Entry) → live ≡ live_after told k L → (since : SinceState) → since ≡ since_after told L O.since → (a : Result Gathered JoinError) × HasEntered v p a (seen content health P live F (set ms p n) k (record O { since = since })) × (Ok told ≡ told_of refusal_of_join (Ok a))
+      entered t told is was live cut since kept = (Ok told, was_joined told (took t told is was) live cut since kept, refl)
 
       refused_by : (t : Result Gathered Refusal) (reason : Refusal) → t ≡ told_of refusal_of_join r → t ≡ Err reason → (fault : JoinError) × HasJoined M q m (Err fault) k n × (reason ≡ refusal_of_join fault)
       refused_by t reason is was =
@@ -252,13 +252,13 @@ module _ {S : Type 0} (content : S → Content) (health : S → Health) (IsSound
         by (Err out) on not stays did stopped = absurd (not_out not)
 
 -- the starts have a place for each process
-pub starts_fit : {S : Type 0} (content : S → Content) (health : S → Health) (IsSound : S → Type 0) (P : List Program) (L : List Entry) (F : List Message) (ms : List (Member S)) (M : ManagerState) (O : List Content) (p : ℕ) (m : Member S) → slice_get ms p ≡ Some m → IsWorld (sound_in IsSound) ms (seen content health P L F ms M O)
+pub starts_fit : {S : Type 0} (content : S → Content) (health : S → Health) (IsSound : S → Type 0) (P : List Program) (L : List Entry) (F : List Message) (ms : List (Member S)) (M : ManagerState) (O : Besides) (p : ℕ) (m : Member S) → slice_get ms p ≡ Some m → IsWorld (sound_in IsSound) ms (seen content health P L F ms M O)
     → (core : CoreState) → m.standing ≡ stands.In core → (starts : List (List ℕ)) → starts ≡ M.starts → length starts ≡ cluster_size core.now
 starts_fit content health IsSound P L F ms M O p m at i core joined starts is =
     ap length is ∙ i.shape.manager.begun.places ∙ i.shape.size ∙ sym (i.shape.own p core (map_at core_in ms p m at ∙ ap (λ s. Some (core_of s)) joined)).size
 
 -- ---- it is rolled back
-module _ {S : Type 0} (content : S → Content) (is_clean : S → Bool) (failed : S → ℕ) (IsSound : S → Type 0) (P : List Program) (L : List Entry) (F : List Message) (ms : List (Member S)) (M : ManagerState) (O : List Content) (p : ℕ) (m : Member S) (at : slice_get ms p ≡ Some m) (n : Member S) (v : WorldState)
+module _ {S : Type 0} (content : S → Content) (is_clean : S → Bool) (failed : S → ℕ) (IsSound : S → Type 0) (P : List Program) (L : List Entry) (F : List Message) (ms : List (Member S)) (M : ManagerState) (O : Besides) (p : ℕ) (m : Member S) (at : slice_get ms p ≡ Some m) (n : Member S) (v : WorldState)
     (i : IsWorld (sound_in IsSound) ms (seen content (health_of is_clean failed) P L F ms M O)) (e : seen content (health_of is_clean failed) P L F ms M O ≡ v) (lt : p < length v.programs) (news : HasNews v p)
     (who : Down) (pid : who.pid ≡ p) (size : who.n ≡ process_count M) (starts : List (List ℕ)) (same_starts : starts ≡ M.starts) (verdict : Verdict) (same_round : verdict.round ≡ M.round) (same_inc : verdict.inc ≡ newest_of M.starts p) (same_place : verdict.r ≡ slice_index M.last p) where
   there : p < length P

@@ -124,6 +124,9 @@ keeps_by w v u z p fuel t e f size keeps = record {
 same_contents : (w v u z : WorldState) (p fuel : ℕ) → HasWent w p fuel v → u ≡ record v { frames = u.frames } → z ≡ record u { manager = z.manager } → z.contents ≡ w.contents
 same_contents w v u z p fuel t e f = ap (λ (x : WorldState). x.contents) f ∙ ap (λ (x : WorldState). x.contents) e ∙ ap (λ (x : WorldState). x.contents) t.1
 
+same_since : (w v u z : WorldState) (p fuel : ℕ) → HasWent w p fuel v → u ≡ record v { frames = u.frames } → z ≡ record u { manager = z.manager } → z.since ≡ w.since
+same_since w v u z p fuel t e f = ap (λ (x : WorldState). x.since) f ∙ ap (λ (x : WorldState). x.since) e ∙ ap (λ (x : WorldState). x.since) t.1
+
 same_manager : (w v u : WorldState) (p fuel : ℕ) → HasWent w p fuel v → u ≡ record v { frames = u.frames } → u.manager ≡ w.manager
 same_manager w v u p fuel t e = ap (λ (x : WorldState). x.manager) e ∙ ap (λ (x : WorldState). x.manager) t.1
 
@@ -142,6 +145,7 @@ hand_stopped w v u z p fuel sent few fault up k t s h known =
       frames = inr (ap (λ (x : WorldState). x.frames) h.others ∙ ap (λ (x : WorldState). x.frames) new.1);
       manager = subst (λ m. HoldsMore m p z.manager) (same_manager w v u p fuel t e) h.more;
       contents = same_contents w v u z p fuel t e h.others;
+      since = same_since w v u z p fuel t e h.others;
     })
 
 pub hand_keeps : (w v u z : WorldState) (p fuel sent : ℕ) (few : List ℕ) (end : Result (Unit {0}) OutputError) → HasWent w p fuel v → HasSent v p few sent u → HasHandedIn u p end z → Keeps w z
@@ -168,4 +172,5 @@ has_run w v u z p fuel sent a b few ran up k m t r s n h known =
       handed_in = subst (λ (x : CoreState). made_by x ≤ length (held_by z.manager p)) (same_core u.cores p h.core d h.there (sent_there w v u p fuel sent few t s)) (h.all (subst IsKnown h.others known));
       manager = subst (λ m. HoldsMore m p z.manager) (same_manager w v u p fuel t e) h.more;
       contents = same_contents w v u z p fuel t e h.others;
+      since = same_since w v u z p fuel t e h.others;
     }

@@ -17,7 +17,7 @@ use Rattle.om_world.specs.declared.entry.Entry.{Entry}
 use Rattle.om_world.specs.declared.process_state.ProcessState.{ProcessState}
 use Rattle.om_world.specs.Started.{IsRefusedAt}
 use Rattle.om_world.specs.World.{Health, WorldState}
-use Rattle.om_world.specs.steps.Members.{core_in, place_in, place_of, round_in, seen, sound_in, store_in}
+use Rattle.om_world.specs.steps.Members.{Besides, core_in, place_in, place_of, round_in, seen, sound_in, store_in}
 use Rattle.om_world.specs.steps.Sound.{IsWorld}
 use Rattle.om_world.specs.steps.Starting.{AreSeated, AreStarted, IsStart}
 use Rattle.om_world.proofs.Lists.{length-map, none_in}
@@ -114,11 +114,11 @@ sound_seated IsSound [] all = tt
 sound_seated IsSound (m ∷ ms) all = (all.0, sound_seated IsSound ms all.1)
 
 pub world_seated : {S : Type 0} (IsSound : S → Type 0) (ms : List (Member S)) (w : WorldState) → IsWorld IsSound (map store_in ms) w → IsWorld (sound_in IsSound) ms w
-world_seated IsSound ms w i = record { shape = i.shape; clean = λ known. let s = i.clean known in (sound_seated IsSound ms s.0, s.1) }
+world_seated IsSound ms w i = record { shape = i.shape; clean = λ known. let s = i.clean known in (sound_seated IsSound ms s.0, s.1); between = i.between }
 
 -- the parts of a world at its start are what is seen of its members
-pub seen_begun : {S : Type 0} (content : S → Content) (health : S → Health) (P : List Program) (L : List Entry) (F : List Message) (ms : List (Member S)) (M : ManagerState) (O : List Content)
-    → record { programs = P; live = L; frames = F; cores = map core_in ms; places = map place_in ms; rounds = map round_in ms; manager = M; contents = map content (map store_in ms); health = map health (map store_in ms); origins = O } ≡ seen content health P L F ms M O
+pub seen_begun : {S : Type 0} (content : S → Content) (health : S → Health) (P : List Program) (L : List Entry) (F : List Message) (ms : List (Member S)) (M : ManagerState) (O : Besides)
+    → record { programs = P; live = L; frames = F; cores = map core_in ms; places = map place_in ms; rounds = map round_in ms; manager = M; contents = map content (map store_in ms); health = map health (map store_in ms); origins = O.origins; since = O.since } ≡ seen content health P L F ms M O
 seen_begun content health P L F ms M O =
-    world_is (record { programs = P; live = L; frames = F; cores = map core_in ms; places = map place_in ms; rounds = map round_in ms; manager = M; contents = map content (map store_in ms); health = map health (map store_in ms); origins = O }) (seen content health P L F ms M O)
-    refl refl refl refl refl refl refl (map_in content ms) (map_in health ms) refl
+    world_is (record { programs = P; live = L; frames = F; cores = map core_in ms; places = map place_in ms; rounds = map round_in ms; manager = M; contents = map content (map store_in ms); health = map health (map store_in ms); origins = O.origins; since = O.since }) (seen content health P L F ms M O)
+    refl refl refl refl refl refl refl (map_in content ms) (map_in health ms) refl refl

@@ -20,7 +20,7 @@ use Rattle.om_world.specs.declared.event.Refusal.TheVariants as why
 use Rattle.om_world.specs.declared.process_state.ProcessState.{ProcessState}
 use Rattle.om_world.specs.Changes.{IsUp}
 use Rattle.om_world.specs.World.{Health, WorldState}
-use Rattle.om_world.specs.steps.Members.{content_in, core_in, health_in, place_in, place_of, round_in, seen, sound_in, health_of}
+use Rattle.om_world.specs.steps.Members.{Besides, content_in, core_in, health_in, place_in, place_of, round_in, seen, sound_in, health_of}
 use Rattle.om_world.specs.steps.Moves.{IsCalled, count_of, refusal_of_record, refusal_of_store, told_of}
 use Rattle.om_world.specs.steps.Sound.{IsWorld}
 use Rattle.om_world.proofs.Kept.{remade}
@@ -28,18 +28,19 @@ use Rattle.om_world.proofs.Lists.{inside, length-map, map_at, map_set, none_in, 
 use Rattle.om_world.proofs.Recording.{set_back}
 
 -- worlds of the same parts are one
-pub world_is : (v w : WorldState) → v.programs ≡ w.programs → v.live ≡ w.live → v.frames ≡ w.frames → v.cores ≡ w.cores → v.places ≡ w.places → v.rounds ≡ w.rounds → v.manager ≡ w.manager → v.contents ≡ w.contents → v.health ≡ w.health → v.origins ≡ w.origins → v ≡ w
-world_is v w programs live frames cores places rounds manager contents health origins =
+pub world_is : (v w : WorldState) → v.programs ≡ w.programs → v.live ≡ w.live → v.frames ≡ w.frames → v.cores ≡ w.cores → v.places ≡ w.places → v.rounds ≡ w.rounds → v.manager ≡ w.manager → v.contents ≡ w.contents → v.health ≡ w.health → v.origins ≡ w.origins → v.since ≡ w.since → v ≡ w
+world_is v w programs live frames cores places rounds manager contents health origins since =
     ap (λ x. record v { programs = x }) programs
     ∙ ap (λ x. record v { programs = w.programs; live = x }) live
     ∙ ap (λ x. record v { programs = w.programs; live = w.live; frames = x }) frames
     ∙ ap (λ x. record v { programs = w.programs; live = w.live; frames = w.frames; cores = x }) cores
     ∙ ap (λ x. record v { programs = w.programs; live = w.live; frames = w.frames; cores = w.cores; places = x }) places
-    ∙ ap (λ x. record w { rounds = x; manager = v.manager; contents = v.contents; health = v.health; origins = v.origins }) rounds
-    ∙ ap (λ x. record w { manager = x; contents = v.contents; health = v.health; origins = v.origins }) manager
-    ∙ ap (λ x. record w { contents = x; health = v.health; origins = v.origins }) contents
-    ∙ ap (λ x. record w { health = x; origins = v.origins }) health
-    ∙ ap (λ x. record w { origins = x }) origins
+    ∙ ap (λ x. record w { rounds = x; manager = v.manager; contents = v.contents; health = v.health; origins = v.origins; since = v.since }) rounds
+    ∙ ap (λ x. record w { manager = x; contents = v.contents; health = v.health; origins = v.origins; since = v.since }) manager
+    ∙ ap (λ x. record w { contents = x; health = v.health; origins = v.origins; since = v.since }) contents
+    ∙ ap (λ x. record w { health = x; origins = v.origins; since = v.since }) health
+    ∙ ap (λ x. record w { origins = x; since = v.since }) origins
+    ∙ ap (λ x. record w { since = x }) since
 
 -- ---- who is up
 pub stands_up : (s : MemberState) → place_of s ≡ ProcessState.Up → IsNotUp s → ⊥
@@ -103,7 +104,7 @@ index_at [] i x e = absurd (none_in i x e)
 index_at (y ∷ xs) zero x e = sym (once y x e)
 index_at (y ∷ xs) (suc i) x e = index_at xs i x e
 
-module _ {S : Type 0} (content : S → Content) (health : S → Health) (IsSound : S → Type 0) (P : List Program) (L : List Entry) (F : List Message) (ms : List (Member S)) (M : ManagerState) (O : List Content) (p : ℕ) where
+module _ {S : Type 0} (content : S → Content) (health : S → Health) (IsSound : S → Type 0) (P : List Program) (L : List Entry) (F : List Message) (ms : List (Member S)) (M : ManagerState) (O : Besides) (p : ℕ) where
   pub here : (v : WorldState) → IsWorld (sound_in IsSound) ms (seen content health P L F ms M O) → seen content health P L F ms M O ≡ v → p < length v.programs → p < length ms
   here v i e lt = subst (λ n. p < n) (length-map core_in ms) (subst (λ n. p < n) (sym i.shape.cores) (subst (λ (x : WorldState). p < length x.programs) (sym e) lt))
 
@@ -142,34 +143,34 @@ module _ {S : Type 0} (content : S → Content) (health : S → Health) (IsSound
       pub seated : place_in n ≡ place_in m → round_in n ≡ round_in m → (live : List Entry) (frames : List Message) (k : ManagerState)
           → remade (seen content health P L F ms M O) live frames (map core_in (set ms p n)) k (map (content_in content) (set ms p n)) (map (health_in health) (set ms p n)) ≡ seen content health P live frames (set ms p n) k O
       seated place round live frames k = world_is (remade (seen content health P L F ms M O) live frames (map core_in (set ms p n)) k (map (content_in content) (set ms p n)) (map (health_in health) (set ms p n))) (seen content health P live frames (set ms p n) k O)
-          refl refl refl refl (same_map place_in ms p m n at place) (same_map round_in ms p m n at round) refl refl refl refl
+          refl refl refl refl (same_map place_in ms p m n at place) (same_map round_in ms p m n at round) refl refl refl refl refl
 
       -- and whose store did not change
       pub kept : place_in n ≡ place_in m → round_in n ≡ round_in m → n.store ≡ m.store → (live : List Entry) (frames : List Message) (k : ManagerState)
           → remade (seen content health P L F ms M O) live frames (map core_in (set ms p n)) k (map (content_in content) ms) (map (health_in health) ms) ≡ seen content health P live frames (set ms p n) k O
       kept place round store live frames k = world_is (remade (seen content health P L F ms M O) live frames (map core_in (set ms p n)) k (map (content_in content) ms) (map (health_in health) ms)) (seen content health P live frames (set ms p n) k O)
-          refl refl refl refl (same_map place_in ms p m n at place) (same_map round_in ms p m n at round) refl (same_map (content_in content) ms p m n at (ap content store)) (same_map (health_in health) ms p m n at (ap health store)) refl
+          refl refl refl refl (same_map place_in ms p m n at place) (same_map round_in ms p m n at round) refl (same_map (content_in content) ms p m n at (ap content store)) (same_map (health_in health) ms p m n at (ap health store)) refl refl
 
       -- one whose store alone changed
       pub restored : core_in n ≡ core_in m → place_in n ≡ place_in m → round_in n ≡ round_in m
           → remade (seen content health P L F ms M O) L F (map core_in ms) M (map (content_in content) (set ms p n)) (map (health_in health) (set ms p n)) ≡ seen content health P L F (set ms p n) M O
       restored core place round = world_is (remade (seen content health P L F ms M O) L F (map core_in ms) M (map (content_in content) (set ms p n)) (map (health_in health) (set ms p n))) (seen content health P L F (set ms p n) M O)
-          refl refl refl (same_map core_in ms p m n at core) (same_map place_in ms p m n at place) (same_map round_in ms p m n at round) refl refl refl refl
+          refl refl refl (same_map core_in ms p m n at core) (same_map place_in ms p m n at place) (same_map round_in ms p m n at round) refl refl refl refl refl
 
       -- one that stands elsewhere, over the same store
       pub placed_as : (core : Option CoreState) (place : ProcessState) (round : ℕ) → core_in n ≡ core → place_in n ≡ place → round_in n ≡ round → n.store ≡ m.store → (live : List Entry) (k : ManagerState)
-          → record { programs = P; live = live; frames = F; cores = set (map core_in ms) p core; places = set (map place_in ms) p place; rounds = set (map round_in ms) p round; manager = k; contents = map (content_in content) ms; health = map (health_in health) ms; origins = O }
+          → record { programs = P; live = live; frames = F; cores = set (map core_in ms) p core; places = set (map place_in ms) p place; rounds = set (map round_in ms) p round; manager = k; contents = map (content_in content) ms; health = map (health_in health) ms; origins = O.origins; since = O.since }
           ≡ seen content health P live F (set ms p n) k O
-      placed_as core place round c pl r store live k = world_is (record { programs = P; live = live; frames = F; cores = set (map core_in ms) p core; places = set (map place_in ms) p place; rounds = set (map round_in ms) p round; manager = k; contents = map (content_in content) ms; health = map (health_in health) ms; origins = O }) (seen content health P live F (set ms p n) k O)
+      placed_as core place round c pl r store live k = world_is (record { programs = P; live = live; frames = F; cores = set (map core_in ms) p core; places = set (map place_in ms) p place; rounds = set (map round_in ms) p round; manager = k; contents = map (content_in content) ms; health = map (health_in health) ms; origins = O.origins; since = O.since }) (seen content health P live F (set ms p n) k O)
           refl refl refl (ap (set (map core_in ms) p) (sym c) ∙ map_set core_in ms p n) (ap (set (map place_in ms) p) (sym pl) ∙ map_set place_in ms p n) (ap (set (map round_in ms) p) (sym r) ∙ map_set round_in ms p n) refl
-          (same_map (content_in content) ms p m n at (ap content store)) (same_map (health_in health) ms p m n at (ap health store)) refl
+          (same_map (content_in content) ms p m n at (ap content store)) (same_map (health_in health) ms p m n at (ap health store)) refl refl
 
       -- one that is placed anew, over its store as it was called
       pub risen : (core : Option CoreState) (place : ProcessState) (round : ℕ) → core_in n ≡ core → place_in n ≡ place → round_in n ≡ round
-          → record { programs = P; live = L; frames = F; cores = set (map core_in ms) p core; places = set (map place_in ms) p place; rounds = set (map round_in ms) p round; manager = M; contents = map (content_in content) (set ms p n); health = map (health_in health) (set ms p n); origins = O }
+          → record { programs = P; live = L; frames = F; cores = set (map core_in ms) p core; places = set (map place_in ms) p place; rounds = set (map round_in ms) p round; manager = M; contents = map (content_in content) (set ms p n); health = map (health_in health) (set ms p n); origins = O.origins; since = O.since }
           ≡ seen content health P L F (set ms p n) M O
-      risen core place round c pl r = world_is (record { programs = P; live = L; frames = F; cores = set (map core_in ms) p core; places = set (map place_in ms) p place; rounds = set (map round_in ms) p round; manager = M; contents = map (content_in content) (set ms p n); health = map (health_in health) (set ms p n); origins = O }) (seen content health P L F (set ms p n) M O)
-          refl refl refl (ap (set (map core_in ms) p) (sym c) ∙ map_set core_in ms p n) (ap (set (map place_in ms) p) (sym pl) ∙ map_set place_in ms p n) (ap (set (map round_in ms) p) (sym r) ∙ map_set round_in ms p n) refl refl refl refl
+      risen core place round c pl r = world_is (record { programs = P; live = L; frames = F; cores = set (map core_in ms) p core; places = set (map place_in ms) p place; rounds = set (map round_in ms) p round; manager = M; contents = map (content_in content) (set ms p n); health = map (health_in health) (set ms p n); origins = O.origins; since = O.since }) (seen content health P L F (set ms p n) M O)
+          refl refl refl (ap (set (map core_in ms) p) (sym c) ∙ map_set core_in ms p n) (ap (set (map place_in ms) p) (sym pl) ∙ map_set place_in ms p n) (ap (set (map round_in ms) p) (sym r) ∙ map_set round_in ms p n) refl refl refl refl refl
 
       -- what is put back where it was
       pub set_round : set (map round_in ms) p m.round ≡ map round_in ms
@@ -183,6 +184,7 @@ module _ {S : Type 0} (content : S → Content) (health : S → Health) (IsSound
       still store v i = record {
         shape = i.shape;
         clean = λ known. let s = i.clean known in (sound_set (sound_in IsSound) ms p n s.0 (subst IsSound (sym store) (sound_at (sound_in IsSound) ms p m s.0 at)), s.1);
+        between = i.between;
       }
 
       -- it did not change

@@ -100,4 +100,5 @@ pub after_down : {S : Type 0} (IsSound : S → Type 0) (xs : List S) (w : WorldS
 after_down IsSound xs w p i undeclared = record {
   shape = shape_down w p false i.shape;
   clean = λ known. let s = i.clean known in (s.0, sound_down w p i.shape s.1 undeclared);
+  between = i.between;
 }

@@ -93,4 +93,5 @@ after_trim IsSound xs w p got released cs i lt g is t =
                 })
                 (λ u. record { round = u.round; starts = u.starts; inc = u.inc; away = u.away }) refl refl,
           );
+      between = i.between;
     })

@@ -1,4 +1,4 @@
--- Over the stores of a settled world a restart finds nothing damaged.
+-- Over the stores of one run a restart finds nothing damaged.
 use Rattle.std.proofs.Common.{◌≡◌, ◌≢◌, inl, inr, ℕ, zero, suc, ◌+◌, ◌<◌, ◌≤◌, List, [], ◌∷◌, length, map, take, Some, None, Option, Bool, true, false, Err, refl, sym, ap, ◌∙◌, subst, arith, length-append}
 use Rattle.std.specs.Prelude.{slice_get}
 use Rattle.std.specs.FinMap.{get}
@@ -40,25 +40,27 @@ use Rattle.om_take_up.proofs.HandingLemmas.{released_for_memory}
 use Rattle.om_world.specs.declared.entry.Entry.{Entry}
 use Rattle.om_world.specs.declared.event.Refusal.{Refusal}
 use Rattle.om_world.specs.declared.event.Refusal.TheVariants as why
-use Rattle.om_world.specs.Disk.{AreTrue, IsSettled, held_in}
+use Rattle.om_world.specs.Disk.{AreTrue, held_in}
 use Rattle.om_world.specs.Live.{program_at, received}
 use Rattle.om_world.specs.Started.{IsNew}
 use Rattle.om_world.specs.StoreRows.{HasRowsOf}
 use Rattle.om_world.specs.World.{IsKnown, WorldState}
 use Rattle.om_world.specs.steps.Moves.{refusal_of_record}
-use Rattle.om_world.specs.steps.Restarting.{HasRead, HasRowsUpTo, HasToldStores, refusal_of_rows, refusal_of_take_up}
+use Rattle.om_world.specs.steps.Restarting.{HasRead, HasRowsUpTo, HasToldStores, refusal_of_rows, refusal_of_take_up, CanRestart}
 use Rattle.om_world.specs.steps.Running.{refusal_of_output}
-use Rattle.om_world.specs.steps.Sound.{HasShape, IsWorld, Sound}
+use Rattle.om_world.specs.steps.Sound.{HasShape, IsWorld}
 use Rattle.om_world.proofs.Disk.{content_at, on_disk, store_ends}
 use Rattle.om_world.proofs.Losing.{not_lost}
 use Rattle.om_world.proofs.Ordered.{offers_by}
 use Rattle.om_world.proofs.Raising.{less}
-use Rattle.om_world.proofs.Reading.{held_same, known_read, same_but, settled_after}
+use Rattle.om_world.proofs.Reading.{held_same, known_read, same_but}
 use Rattle.om_world.proofs.Returning.{what}
 use Rattle.om_take_up.proofs.RowsLemmas.{AreAdded, are_added, row_pid}
 use Rattle.om_world.proofs.RowsTold.{all_stores, same_rows}
 use Rattle.om_world.proofs.StoredRows.{Each, IsTrueRow, base_true, each_append, each_at, next_number, next_true, store_true}
 use Rattle.om_world.proofs.TrueRows.{IsTrueOf, first_true, for_true}
+use Rattle.om_world.specs.Stopped.{IsLeft, along}
+use Rattle.om_world.proofs.Leaving.{can_restart, shape_along}
 
 -- ---- each record of a store is one of its process
 within : (held : Records) (x last : ℕ) (bytes : List ℕ) → ((y : ℕ) → last < y → get held y ≡ None) → get held x ≡ Some bytes → x ≤ last
@@ -67,11 +69,11 @@ within held x last bytes none at = elim (less last x) [ inl above ↦ absurd (ap
     apart : (o : Option (List ℕ)) → o ≡ None → o ≡ Some bytes → ⊥
     apart o none some = cc
 
-checkpoint_stands : (w : WorldState) (p x : ℕ) (bytes : List ℕ) → HasShape w → Sound w → IsSettled w → p < length w.programs → get (held_in w p).checkpoints x ≡ Some bytes
+checkpoint_stands : (w : WorldState) (p x : ℕ) (bytes : List ℕ) → HasShape w → CanRestart w → p < length w.programs → get (held_in w p).checkpoints x ≡ Some bytes
     → (c : CheckpointRecord) × IsCheckpointAt (held_in w p).checkpoints x c × IsBase p (length w.programs) x c
-checkpoint_stands w p x bytes h s settled lt at =
+checkpoint_stands w p x bytes h s lt at =
     let g : List Received = received p w.live in
-    let le = within (held_in w p).checkpoints x (length g) bytes (store_ends w p h s settled lt).checkpoints at in
+    let le = within (held_in w p).checkpoints x (length g) bytes (store_ends w p h s lt).checkpoints at in
     let known = (s.stored p (held_in w p) (content_at w p h lt)).checkpoints x bytes le at in
     let c = known.0 in
     let claim = known.4 in
@@ -79,11 +81,11 @@ checkpoint_stands w p x bytes h s settled lt at =
     let named : c.head.interval ≡ x = ap (λ (q : Process). q.interval) claim.1.2.same ∙ long ∙ length-take-le x g le in
     (c, (bytes, at, known.1, named), record { pid = known.2; size = known.3; interval = named })
 
-receipt_stands : (w : WorldState) (p x : ℕ) (bytes : List ℕ) → HasShape w → Sound w → IsSettled w → p < length w.programs → 0 < x → get (held_in w p).receipts x ≡ Some bytes
+receipt_stands : (w : WorldState) (p x : ℕ) (bytes : List ℕ) → HasShape w → CanRestart w → p < length w.programs → 0 < x → get (held_in w p).receipts x ≡ Some bytes
     → (r : ReceiptRecord) × IsReceiptAt (held_in w p).receipts x r × IsReceiptOf p (length w.programs) x r
-receipt_stands w p x bytes h s settled lt begun at =
+receipt_stands w p x bytes h s lt begun at =
     let g : List Received = received p w.live in
-    let le = within (held_in w p).receipts x (length g) bytes (store_ends w p h s settled lt).receipts at in
+    let le = within (held_in w p).receipts x (length g) bytes (store_ends w p h s lt).receipts at in
     let known = (s.stored p (held_in w p) (content_at w p h lt)).receipts x bytes (omega arith) le at in
     let r = known.0 in
     let claim = known.2 in
@@ -114,21 +116,21 @@ no_mismatch programs live held p x disk lt m =
     m.other (next_number program p n g m.before m.receipt before (subst (λ y. AtInterval g y (RecordOf program p n m.receipt)) m.next claim))
 
 -- the records of a store stand for rows
-pub rows_stand : (w : WorldState) (p : ℕ) (fault : RowsFault) → HasShape w → Sound w → IsSettled w → AreTrue w.programs w.live (held_in w) → p < length w.programs
+pub rows_stand : (w : WorldState) (p : ℕ) (fault : RowsFault) → HasShape w → CanRestart w → AreTrue w.programs w.live (held_in w) → p < length w.programs
     → RefusesRows p (length w.programs) (held_in w p) fault → refusal_of_rows fault ≢ why.Damaged
-rows_stand w p (Damaged x) h s settled disk lt refused is = elim refused [
+rows_stand w p (Damaged x) h s disk lt refused is = elim refused [
   | inl base ↦
       let b = what (get (held_in w p).checkpoints x) base.there in
-      let c = checkpoint_stands w p x b.0 h s settled lt b.1 in
+      let c = checkpoint_stands w p x b.0 h s lt b.1 in
       base.none c.0 c.1 c.2
   | inr receipt ↦
       let b = what (get (held_in w p).receipts x) receipt.there in
-      let r = receipt_stands w p x b.0 h s settled lt receipt.begun b.1 in
+      let r = receipt_stands w p x b.0 h s lt receipt.begun b.1 in
       receipt.none r.0 r.1 r.2
 ]
-rows_stand w p (Mismatch x) h s settled disk lt refused is = no_mismatch w.programs w.live (held_in w) p x disk lt refused
-rows_stand w p Fault h s settled disk lt refused is = cc
-rows_stand w p Memory h s settled disk lt refused is = cc
+rows_stand w p (Mismatch x) h s disk lt refused is = no_mismatch w.programs w.live (held_in w) p x disk lt refused
+rows_stand w p Fault h s disk lt refused is = cc
+rows_stand w p Memory h s disk lt refused is = cc
 
 -- ---- no row of a receipt is of interval 0
 abbrev IsBegun : PendingRow → Type 0
@@ -228,14 +230,14 @@ told_for_memory programs live held p count rows m next fault disk lt size first 
 memory_stands : (refusal : Refusal) → refusal ≡ why.Memory → refusal ≢ why.Damaged
 memory_stands refusal memory damaged = cc
 
-told_stand : (old mid new : WorldState) (first m next : ManagerState) (p count : ℕ) (rows : List PendingRow) (fault : RecordError) → p < length old.programs → IsNew (length old.programs) first
-    → HasToldStores old first p mid m → HasRead mid new → IsKnown new → AreTrue mid.programs mid.live (held_in mid) → AreRowsOf p (length mid.programs) (held_in mid p) rows
+told_stand : (old mid new : WorldState) (run : List Entry) (first m next : ManagerState) (p count : ℕ) (rows : List PendingRow) (fault : RecordError) → p < length old.programs → IsNew (length old.programs) first
+    → HasToldStores old first p mid m → HasRead mid new → IsKnown new → AreTrue mid.programs run (held_in mid) → AreRowsOf p (length mid.programs) (held_in mid p) rows
     → IsToldUpTo m 0 p rows count (Err fault) next → refusal_of_record fault ≢ why.Damaged
-told_stand old mid new first m next p count rows fault lt fresh t r known disk a u is =
+told_stand old mid new run first m next p count rows fault lt fresh t r known disk a u is =
     let before = known_read mid new r known in
     let same = same_but old mid t.read before in
     let size : process_count m ≡ length old.programs = t.told.size ∙ ap length fresh.recovery ∙ length-replicate (length old.programs) 0 in
-    let memory = told_for_memory old.programs old.live (held_in old) p count rows m next fault (subst (λ (w : WorldState). AreTrue w.programs w.live (held_in w)) same disk) lt size (ap (λ (k : ManagerState). k.round) t.told.others ∙ fresh.round) t.told.sound
+    let memory = told_for_memory old.programs run (held_in old) p count rows m next fault (subst (λ (w : WorldState). AreTrue w.programs run (held_in w)) same disk) lt size (ap (λ (k : ManagerState). k.round) t.told.others ∙ fresh.round) t.told.sound
     (t.rows before) (subst (λ (w : WorldState). AreRowsOf p (length w.programs) (held_in w p) rows) same a) u in
     memory_stands (refusal_of_record fault) (ap refusal_of_record memory) is
 
@@ -251,28 +253,31 @@ handed_stand old mid new first m told next p rows outputs fault lt fresh t sound
     memory_stands (refusal_of_output fault) (ap refusal_of_output memory) damaged
 
 -- what a store held is refused for memory alone
-pub taken_stand : (old mid new : WorldState) (first m next : ManagerState) (p : ℕ) (rows : List PendingRow) (outputs : List Output) (fault : TakeUpFault) → p < length old.programs → IsNew (length old.programs) first
-    → HasToldStores old first p mid m → HasRead mid new → IsKnown new → AreTrue mid.programs mid.live (held_in mid) → AreRowsOf p (length mid.programs) (held_in mid p) rows
+pub taken_stand : (old mid new : WorldState) (run : List Entry) (first m next : ManagerState) (p : ℕ) (rows : List PendingRow) (outputs : List Output) (fault : TakeUpFault) → p < length old.programs → IsNew (length old.programs) first
+    → HasToldStores old first p mid m → HasRead mid new → IsKnown new → AreTrue mid.programs run (held_in mid) → AreRowsOf p (length mid.programs) (held_in mid p) rows
     → IsManager new.manager → process_count new.manager ≡ length old.programs → map held_of outputs ≡ released_by new.manager p → AreNumbered outputs
     → IsTakenUp m 0 p rows (map made_of outputs) (Err fault) next → refusal_of_take_up fault ≢ why.Damaged
-taken_stand old mid new first m next p rows outputs (take_ups.Row fault) lt fresh t r known disk a sound places is numbered u =
-    told_stand old mid new first m next p u.0 rows fault lt fresh t r known disk a u.1
-taken_stand old mid new first m next p rows outputs (take_ups.Output fault) lt fresh t r known disk a sound places is numbered u =
+taken_stand old mid new run first m next p rows outputs (take_ups.Row fault) lt fresh t r known disk a sound places is numbered u =
+    told_stand old mid new run first m next p u.0 rows fault lt fresh t r known disk a u.1
+taken_stand old mid new run first m next p rows outputs (take_ups.Output fault) lt fresh t r known disk a sound places is numbered u =
     handed_stand old mid new first m u.0 next p rows outputs fault lt fresh t sound places is numbered u.1 u.2
 
 -- ---- what is known of a world
-pub stands : {S : Type 0} (IsSound : S → Type 0) (stores : List S) (v w : WorldState) → IsWorld IsSound stores v → v ≡ w → IsKnown w → HasShape w × Sound w
-stands IsSound stores v w i e known = (subst HasShape e i.shape, subst Sound e (i.clean (subst IsKnown (sym e) known)).1)
+pub stands : {S : Type 0} (IsSound : S → Type 0) (stores : List S) (v w : WorldState) (run : List Entry) → IsWorld IsSound stores v → v ≡ w → IsKnown w → IsLeft w run → HasShape (along w run) × CanRestart (along w run)
+stands IsSound stores v w run i e known left = (
+  shape_along w run (subst HasShape e i.shape),
+  subst (λ (x : WorldState). CanRestart (along x run)) e (can_restart IsSound stores v run i (subst IsKnown (sym e) known) (subst (λ (x : WorldState). IsLeft x run) (sym e) left)),
+)
 
 -- ---- and no less is recovered
-pub none_lost : (old mid : WorldState) (first told : ManagerState) → IsNew (length old.programs) first → HasToldStores old first (length old.programs) mid told → HasShape mid → Sound mid → IsSettled old → IsKnown mid
+pub none_lost : (old mid : WorldState) (first told : ManagerState) (run : List Entry) → IsNew (length old.programs) first → HasToldStores old first (length old.programs) mid told → HasShape (along mid run) → CanRestart (along mid run) → IsKnown mid
     → IsBelow mid.manager.recovery told.recovery
-none_lost old mid first told fresh t h s settled known =
+none_lost old mid first told run fresh t h s known =
     let programs : mid.programs ≡ old.programs = ap (λ (x : WorldState). x.programs) t.read.others in
     let many : length mid.programs ≡ length old.programs = ap length programs in
     let all = all_stores (length old.programs) (held_in old) told.rows (t.rows known) in
     let here = same_rows (length old.programs) (held_in old) (held_in mid) told.rows (held_same old mid t.read known) all in
     let rows : HasRowsOf (length mid.programs) (held_in mid) told.rows = subst (λ n. HasRowsOf n (held_in mid) told.rows) (sym many) here in
     let size : process_count told ≡ length mid.programs = t.told.size ∙ ap length fresh.recovery ∙ length-replicate (length old.programs) 0 ∙ sym many in
-    let d = on_disk mid h s (settled_after old mid t.read settled) in
-    not_lost mid.programs mid.live (held_in mid) told.rows mid.manager.recovery told.recovery d.held rows (subst (λ n. IsGreatest n told.rows told.recovery) size t.told.sound.exact.greatest) d.places d.last d.served d.within
+    let d = on_disk (along mid run) h s in
+    not_lost mid.programs run (held_in mid) told.rows mid.manager.recovery told.recovery d.held rows (subst (λ n. IsGreatest n told.rows told.recovery) size t.told.sound.exact.greatest) d.places d.last d.served d.within

@@ -1,11 +1,12 @@
 -- What is said of several events: who changes, what is sent, handed in and stored.
-use Rattle.std.specs.Prelude.{◌≡◌, ◌⊎◌, ℕ, zero, suc, ◌<◌, ◌≤◌, List, [], ◌++◌, length, take, drop, slice_get, slice_set, Some}
+use Rattle.std.specs.Prelude.{◌≡◌, ◌⊎◌, ℕ, zero, suc, ◌<◌, ◌≤◌, List, [], ◌∷◌, ◌++◌, length, take, drop, slice_get, slice_set, Bool, true, false, Some}
 use Rattle.om_format.specs.declared.message.Message.{Message}
 use Rattle.om_format.specs.Queues.{queue_end}
 use Rattle.om_stable.specs.Content.{Content}
 use Rattle.om_stable.specs.Count.{Rose}
 pub use Rattle.om_process.specs.Frames.{message_of}
 use Rattle.om_process.specs.Core.{CoreState, cluster_size, with_pending}
+use Rattle.om_process.specs.declared.row.PendingRow.{PendingRow}
 use Rattle.om_process.specs.Frames.{messages_to, outputs_of}
 use Rattle.om_process.specs.Kept.{numbered}
 use Rattle.om_member.specs.declared.batch.Batch.{Batch}
@@ -13,7 +14,7 @@ use Rattle.om_member.specs.Told.{AreTold}
 use Rattle.om_manager.specs.Outputs.{HeldOutput}
 use Rattle.om_manager.specs.State.{ManagerState, held_by}
 use Rattle.om_world.specs.declared.process_state.ProcessState.{ProcessState}
-use Rattle.om_world.specs.World.{Health, WorldState}
+use Rattle.om_world.specs.World.{Health, SinceState, WorldState}
 pub use Rattle.om_member.specs.Members.{HasGained, stored}
 pub use Rattle.om_member.specs.Told.{row_for}
 
@@ -70,11 +71,21 @@ abbrev pub HoldsMore : ManagerState → ℕ → ManagerState → Type 0
 HoldsMore old p new = (more : List HeldOutput) × (new ≡ record old { outputs = slice_set old.outputs p (held_by old p ++ more) })
 
 -- ---- records that are stored and noted
+-- whether a row is pending
+abbrev pub has_rows : List PendingRow → Bool
+has_rows [] = false
+has_rows (row ∷ rows) = true
+
+-- a batch was stored: a process has stored, where a row of it is pending then, since no record is stored without one
+abbrev pub has_stored : Bool → SinceState → SinceState
+has_stored true since = record since { stored = true }
+has_stored false since = since
+
 -- the store of process p gained it
 abbrev pub HasStored : Batch → WorldState → ℕ → CoreState → WorldState → Type 0
 HasStored kind old p c new =
     (before : Content) × (after : Content) × (slice_get old.contents p ≡ Some before) × HasGained kind c before after
-    × (new.contents ≡ slice_set old.contents p after)
+    × (new.contents ≡ slice_set old.contents p after) × (new.since ≡ has_stored (has_rows (stored kind c).pending) old.since)
 
 -- the first so many of the pending rows of the core, as it was once it had stored, are noted and no longer pending
 pub record HasNoted (old : WorldState) (p : ℕ) (c d : CoreState) (count : ℕ) (new : WorldState) : Type 0 where

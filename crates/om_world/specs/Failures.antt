@@ -17,7 +17,7 @@ use Rattle.om_member.specs.declared.batch.Batch.TheVariants.{Log}
 use Rattle.om_member.specs.Told.{AreTold}
 use Rattle.om_world.specs.Changes.{Changes, HasStored, HoldsMore, IsSame, IsUp, made_by}
 use Rattle.om_world.specs.Live.{cut_list}
-use Rattle.om_world.specs.World.{WorldState, recovered}
+use Rattle.om_world.specs.World.{SinceState, WorldState, recovered}
 
 -- a round is finished that is newer than those that the process knew when it was last up
 abbrev pub HasNews : WorldState → ℕ → Type 0
@@ -40,9 +40,14 @@ abbrev pub live_after : Gathered → ManagerState → List Entry → List Entry
 live_after Waiting m live = live
 live_after Finished m live = cut_list (recovered m) live
 
+-- a finished round begins anew what is kept of it
+abbrev pub since_after : Gathered → List Entry → SinceState → SinceState
+since_after Waiting live since = since
+since_after Finished live since = record { before = live; stored = false }
+
 -- the manager has taken a failure or a join
 abbrev pub gathered : WorldState → Gathered → ManagerState → WorldState
-gathered w answer m = record w { live = live_after answer w.manager w.live; manager = m }
+gathered w answer m = record w { live = live_after answer w.manager w.live; manager = m; since = since_after answer w.live w.since }
 
 -- ---- a failure
 -- a failure is to be declared: the process is up; or in, and the gathering that it joined is open; or down, where its declaration was

@@ -41,6 +41,7 @@ pub record RunHappened (old : WorldState) (p fuel steps : ℕ) (status : Status)
   pub handed_in : made_by after ≤ length (held_by new.manager p)
   pub manager : HoldsMore old.manager p new.manager
   pub contents : new.contents ≡ old.contents
+  pub since : new.since ≡ old.since
 
 -- a run that memory was refused: the turns before stand, and all new messages are frames or none is
 pub record RunStopped (old : WorldState) (p fuel : ℕ) (new : WorldState) : Type 0 where
@@ -52,6 +53,7 @@ pub record RunStopped (old : WorldState) (p fuel : ℕ) (new : WorldState) : Typ
   pub frames : (new.frames ≡ old.frames) ⊎ (new.frames ≡ old.frames ++ new_messages before after)
   pub manager : HoldsMore old.manager p new.manager
   pub contents : new.contents ≡ old.contents
+  pub since : new.since ≡ old.since
 
 -- ---- a frame that is offered
 -- the frame, and the core to which it is offered
@@ -124,8 +126,10 @@ abbrev pub Refused : WorldState → Event → Refusal → WorldState → Type 0
 Refused old Event.Prune refusals.Memory new = PruneStopped old new
 Refused old Event.Prune refusals.Fault new = ((p : ℕ) × HasFailed old p new) × PruneStopped old new
 Refused old Event.Prune why new = ⊥
--- a restart leaves all but how the stores stand
-Refused old Event.Restart refusals.Unsettled new = ((p : ℕ) × (p < length old.programs) × HasNews old p) × (new ≡ old)
+-- a restart leaves all but how the stores stand. It is unsettled where a process is not back from the last finished round, and another
+-- may have stored since
+Refused old Event.Restart refusals.Unsettled new =
+    ((p : ℕ) × (p < length old.programs) × HasNews old p) × (new ≡ old) × (old.since.stored ≡ true)
 Refused old Event.Restart refusals.Fault new = ((p : ℕ) × HasFailed old p new) × IsSame old new
 Refused old Event.Restart refusals.Memory new = IsSame old new
 Refused old Event.Restart why new = ⊥

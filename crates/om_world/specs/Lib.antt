@@ -9,6 +9,7 @@ pub mod Played
 pub mod Started
 pub mod StoreRows
 pub mod Restarted
+pub mod Stopped
 pub mod Events
 pub mod Texts
 pub mod steps

@@ -1,5 +1,5 @@
 -- A world at its start, and why there is none.
-use Rattle.std.specs.Prelude.{◌≡◌, ℕ, ◌<◌, ◌≤◌, List, [], length, replicate, slice_get, Bool, IsSome, IsTrue, None, Some}
+use Rattle.std.specs.Prelude.{◌≡◌, ℕ, ◌<◌, ◌≤◌, List, [], length, replicate, slice_get, Bool, IsSome, IsTrue, None, Some, false}
 use Rattle.std.specs.FinMap.{get}
 use Rattle.om_isa.specs.Memory.{IsMemorySize}
 use Rattle.om_stable.specs.Calls.{IsCleanCall}
@@ -26,6 +26,7 @@ pub record IsStarted (given : List Program) (w : WorldState) : Type 0 where
   pub places : w.places ≡ replicate (length given) ProcessState.Up
   pub rounds : w.rounds ≡ replicate (length given) 0
   pub manager : IsNew (length given) w.manager
+  pub since : w.since ≡ record { before = []; stored = false }
 
 -- each store had no checkpoint of interval 0, and has gained its process's first checkpoint and nothing else
 abbrev pub HaveFirst : WorldState → Type 0

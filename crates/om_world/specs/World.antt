@@ -17,6 +17,12 @@ pub record Health : Type 0 where
   pub clean : Bool
   pub failed : ℕ
 
+-- what is kept of the last finished round, or of the start: what had been received, before the round cut it; and whether a process
+-- has stored a record since
+pub record SinceState : Type 0 where
+  pub before : List Entry
+  pub stored : Bool
+
 pub record WorldState : Type 0 where
   pub programs : List Program  -- by process
   pub live : List Entry  -- what was received and not cut, in order
@@ -28,6 +34,7 @@ pub record WorldState : Type 0 where
   pub contents : List Content  -- by process, what its store holds
   pub health : List Health  -- by process, how its store stands
   pub origins : List Content  -- by process, what its store held before the start
+  pub since : SinceState  -- the last finished round
 
 -- what each store holds is known
 abbrev pub all_clean : List Health → Bool

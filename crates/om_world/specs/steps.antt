@@ -3,6 +3,8 @@ pub mod Past
 pub mod Legal
 pub mod Sound
 pub mod Restarting
+pub mod Stopping
+pub mod Remembered
 pub mod Moves
 pub mod Starting
 pub mod Running

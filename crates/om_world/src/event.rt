@@ -41,7 +41,8 @@ pub enum Event {
     Prune,
     /// The whole ends and starts over its stores: a new manager is told the rows of their records and what was released, and that
     /// each process failed, and finishes the round. What was received is cut to its recovery state, frames are lost, and each process
-    /// is down, to come up again by `Resume`.
+    /// is down, to come up again by `Resume`. Where a process is not back from the last finished round, and none has stored since, what
+    /// had been received when it finished is cut: that a round is finished stands on no disk, and the stores hold what they held then.
     Restart,
 }
 
@@ -108,7 +109,8 @@ pub enum Refusal {
     Damaged,
     /// Memory ran out.
     Memory,
-    /// A process does not know the last finished round: it is not up again since.
+    /// A process does not know the last finished round, as it is not up again since; and one has stored a record since, so that
+    /// the stores may not be of one run.
     Unsettled,
 }
 

@@ -1,7 +1,7 @@
 //! Processes that fail.
 
 ghost use Rattle.std.specs.Prelude.{◌≡◌, ◌<◌, length, slice_get, Some, false};
-ghost use Rattle.om_world.specs.Failures.{live_after};
+ghost use Rattle.om_world.specs.Failures.{live_after, since_after};
 ghost use Rattle.om_world.specs.Happened.{Happened};
 ghost use Rattle.om_world.specs.Played.{IsFaultless};
 ghost use Rattle.om_world.specs.World.{IsKnown};
@@ -11,8 +11,9 @@ ghost use Rattle.om_world.specs.steps.Gathering.{HasDeclaredAt, IsFailure};
 ghost use Rattle.om_world.specs.steps.Moves.{Keeps, answered};
 
 use crate::event::{Answer, Refusal};
-use crate::live::Live;
 use crate::process_state::ProcessState;
+use crate::receipts::Receipts;
+use crate::since::Since;
 use crate::world::World;
 use om_interval::Pid;
 use om_manager::{FailError, Gathered, Manager};
@@ -31,10 +32,17 @@ pub(crate) enum Failure {
 }
 
 // Cuts what was received to the recovery state, where the round is finished.
-pub(crate) fn cut_where_finished(live: &mut Live, manager: &Manager, told: Gathered)
-    ensures { live.new.entries ≡ live_after told manager.now live.old.entries }
+pub(crate) fn cut_where_finished(
+    live: &mut Receipts,
+    since: &mut Since,
+    manager: &Manager,
+    told: Gathered,
+)
+    ensures live { live.new.entries ≡ live_after told manager.now live.old.entries }
+    ensures since { since.new ≡ since_after told live.old.entries since.old }
 {
     if told == Gathered::Finished {
+        since.finish(live);
         live.cut(&manager.recovery());
     }
 }
@@ -71,7 +79,7 @@ impl<S: Stable> World<S> {
     {
         let member = &mut self.members[p];
         let told = member.declare(&mut self.manager, alloc, Pid::at(p))?;
-        cut_where_finished(&mut self.live, &self.manager, told);
+        cut_where_finished(&mut self.live, &mut self.since, &self.manager, told);
         Ok(told)
     }
 }

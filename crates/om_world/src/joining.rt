@@ -49,7 +49,7 @@ impl<S: Stable> World<S> {
     {
         let member = &mut self.members[p];
         let told = told_joined(member.join(&mut self.manager, alloc, Pid::at(p)))?;
-        cut_where_finished(&mut self.live, &self.manager, told);
+        cut_where_finished(&mut self.live, &mut self.since, &self.manager, told);
         Ok(told)
     }
 }

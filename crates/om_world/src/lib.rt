@@ -6,9 +6,9 @@
 //!
 //! In an order of reading:
 //!
-//! - what there is: `event` (events and answers), `world` (the parts, and the reads), `process_state`, `entry` and `live` (what was
-//!   received), `laws` (theorems over the definitions)
-//! - `start`, and `play`: one event after another; `stopping`: the end, of which the stores are left
+//! - what there is: `event` (events and answers), `world` (the parts, and the reads), `process_state`; `entry`, `receipts` and `live`
+//!   (what was received), `remembered` and `leave` (what of it clauses alone know), `since` (the last finished round); `laws` (theorems over the definitions)
+//! - `start`, and `play`: one event after another; `stopping`: the end; `stopped`: what is left of a world, which `taking_up` takes up
 //! - the events: `run`, `give`, `frames` (what is sent), `storing` (flushes and checkpoints), `failing`, `joining`, `resume`, `trim`,
 //!   `prune`, `restart`
 #![tactic(auto)]
@@ -16,6 +16,8 @@
 pub use entry::Entry;
 pub use event::{Answer, Event, Refusal};
 pub use process_state::ProcessState;
+pub use stopped::Stopped;
+pub use taking_up::NotTakenUp;
 pub use world::World;
 
 mod entry;
@@ -25,15 +27,21 @@ mod frames;
 mod give;
 mod joining;
 pub mod laws;
+mod leave;
 mod live;
 mod play;
 mod process_state;
 mod prune;
+mod receipts;
+mod remembered;
 mod restart;
 mod resume;
 mod run;
+mod since;
 mod start;
+mod stopped;
 mod stopping;
 mod storing;
+mod taking_up;
 mod trim;
 mod world;

@@ -1,27 +1,33 @@
 //! The restart of a world: all that runs ends, and a new manager starts over the stores.
 
-ghost use Rattle.std.specs.Prelude.{◌≡◌, ◌≢◌, ◌<◌, [], length, map, Err, IfErr, IfOk, IsErrOf, OnOk, slice_get};
+ghost use Rattle.std.specs.Prelude.{◌≡◌, ◌≢◌, ◌<◌, List, [], length, map, cond, Err, IfErr, IfOk, IsErrOf, OnOk, false, slice_get, slice_index, true};
 ghost use Rattle.om_look.specs.Rows.{AreRowsOf};
 ghost use Rattle.om_look.specs.declared.rows.RowsFault.{RowsFault};
 ghost use Rattle.om_manager.specs.Sound.{IsManager};
 ghost use Rattle.om_world.specs.Changes.{HasFailed};
-ghost use Rattle.om_world.specs.Disk.{AreTrue, IsSettled, held_in};
+ghost use Rattle.om_world.specs.Disk.{AreTrue, held_in};
 ghost use Rattle.om_world.specs.Failures.{HasNews};
 ghost use Rattle.om_world.specs.Happened.{Happened};
+ghost use Rattle.om_world.specs.Live.{cut_list};
 ghost use Rattle.om_world.specs.Played.{IsCounted, IsFaultless};
 ghost use Rattle.om_world.specs.Restarted.{anew};
 ghost use Rattle.om_world.specs.Started.{IsNew};
+ghost use Rattle.om_world.specs.Stopped.{AreCurrent, IsLeft, IsWhole, along};
 ghost use Rattle.om_world.specs.World.{IsKnown};
+ghost use Rattle.om_world.specs.declared.entry.Entry.{Entry};
 ghost use Rattle.om_world.specs.declared.event.Event.{Event};
 ghost use Rattle.om_world.specs.declared.event.Refusal.{Refusal};
 ghost use Rattle.om_world.specs.steps.Members.{downed};
 ghost use Rattle.om_world.specs.steps.Moves.{Keeps, answered};
-ghost use Rattle.om_world.specs.steps.Restarting.{HasRead, HasToldStores, IsAnew, IsRefusal, refusal_of_rows};
+ghost use Rattle.om_world.specs.steps.Remembered.{fitting};
+ghost use Rattle.om_world.specs.steps.Restarting.{HasRead, HasToldStores, IsAnew, IsRefusal, begun_live, left_run, refusal_of_rows};
 
 use crate::event::{Answer, Refusal};
+use crate::receipts::Receipts;
+use crate::since::Since;
 use crate::start::new_manager;
 use crate::world::World;
-use om_interval::Pid;
+use om_interval::{DepVec, Pid};
 use om_look::{RowsFault, stored_rows};
 use om_manager::Manager;
 use om_member::{Member, MemberState};
@@ -31,7 +37,7 @@ use om_take_up::{fail_all, take_up};
 use std::alloc::Global;
 
 // Takes each process down, declared, as before any round.
-fn put_down<S: Stable>(members: &mut Vec<Member<S>>)
+pub(crate) fn put_down<S: Stable>(members: &mut Vec<Member<S>>)
     ensures { members.new.items ≡ map downed members.old.items }
 {
     for p in 0..members.len() {
@@ -41,18 +47,67 @@ fn put_down<S: Stable>(members: &mut Vec<Member<S>>)
     }
 }
 
+// Leaves of what had been received before the last finished round what a restart recovers.
+fn begin_before(alloc: Global, live: &mut Receipts, since: &mut Since, state: &DepVec)
+    ensures live { live.new.entries ≡ fitting (λ p. slice_index state.now p) (cut_list (λ p. slice_index state.now p) since.old.before) }
+    ensures since { since.new ≡ record { before = since.old.before; stored = false } }
+{
+    *live = Receipts::before(alloc, &since.before, state);
+    since.stored = false;
+}
+
+// Leaves of what was received what a restart recovers: of what was received last, or before the last finished round.
+fn begin_live(alloc: Global, live: &mut Receipts, since: &mut Since, state: &DepVec, current: bool)
+    ensures live { live.new.entries ≡ begun_live current (λ p. slice_index state.now p) live.old.entries since.old.before }
+    ensures since { since.new ≡ record { before = cond current live.old.entries since.old.before; stored = false } }
+{
+    if current {
+        since.finish(live);
+        live.cut(state);
+    } else {
+        begin_before(alloc, live, since, state);
+    }
+}
+
 impl<S: Stable> World<S> {
-    // Refuses a world in which a process does not know the last finished round.
-    fn is_settled(&self) -> Result<(), Refusal>
-        ensures settled { OnOk result (IsSettled self.now) }
-        ensures unsettled { IfErr result (λ why. (why ≡ Refusal.Unsettled) × ((p : _) × (p < length self.now.programs) × HasNews self.now p)) }
+    /// Returns whether what is on the disks is known to be of one run: each process knows the last finished round, or none has stored
+    /// since. Only then a world restarts, and what is left of it can be taken up.
+    pub fn is_settled(&self) -> bool
+        ensures settled { result ≡ true → IsWhole self.now }
+        ensures unsettled { result ≡ false → ((p : _) × (p < length self.now.programs) × HasNews self.now p) × (self.now.since.stored ≡ true) }
+    {
+        match self.settled() {
+            Ok(_) => true,
+            Err(_) => false,
+        }
+    }
+
+    // Returns whether each process knows the last finished round.
+    pub(crate) fn is_current(&self) -> bool
+        ensures current { result ≡ true → AreCurrent self.now }
+        ensures news { result ≡ false → (p : _) × (p < length self.now.programs) × HasNews self.now p }
     {
         for p in 0..self.size() {
             if self.has_news(p) {
-                return Err(Refusal::Unsettled);
+                return false;
             }
         }
-        Ok(())
+        true
+    }
+
+    // Returns whether each process knows the last finished round, and refuses a world in which one does not and one has stored since.
+    fn settled(&self) -> Result<bool, Refusal>
+        ensures left { IfOk result (λ current. IsLeft self.now (left_run current self.now)) }
+        ensures unsettled { IfErr result (λ why. (why ≡ Refusal.Unsettled)
+            × ((p : _) × (p < length self.now.programs) × HasNews self.now p) × (self.now.since.stored ≡ true)) }
+    {
+        if self.is_current() {
+            return Ok(true);
+        }
+        if self.since.has_stored() {
+            return Err(Refusal::Unsettled);
+        }
+        Ok(false)
     }
 
     // Returns the rows that the store of a process stands for.
@@ -62,8 +117,8 @@ impl<S: Stable> World<S> {
         ensures rows { IsKnown self.new → IfOk result (λ rows. AreRowsOf p (length self.old.programs) (held_in self.old p) rows.items) }
         ensures counted { result ≡ Err RowsFault.Fault → HasFailed self.old p self.new }
         ensures faultless { ((store : S) → S.failed store ≡ 0) → result ≢ Err RowsFault.Fault }
-        ensures stands { IsKnown self.new → IsSettled self.old → AreTrue self.old.programs self.old.live (held_in self.old) }
-        ensures whole { IsKnown self.new → IsSettled self.old → IfErr result (λ fault. refusal_of_rows fault ≢ Refusal.Damaged) }
+        ensures stands { IsKnown self.new → (run : List Entry) → IsLeft self.old run → AreTrue self.old.programs run (held_in self.old) }
+        ensures whole { IsKnown self.new → IsWhole self.old → IfErr result (λ fault. refusal_of_rows fault ≢ Refusal.Damaged) }
     {
         let n = self.size();
         let member = &mut self.members[p];
@@ -79,7 +134,7 @@ impl<S: Stable> World<S> {
         ensures refused { IfErr result IsRefusal }
         ensures counted { result ≡ Err Refusal.Fault → (p : _) × HasFailed self.old p self.new }
         ensures faultless { ((store : S) → S.failed store ≡ 0) → result ≢ Err Refusal.Fault }
-        ensures whole { IsKnown self.new → IsSettled self.old → result ≢ Err Refusal.Damaged }
+        ensures whole { IsKnown self.new → IsWhole self.old → result ≢ Err Refusal.Damaged }
     {
         for p in 0..self.size() {
             let rows = self.rows_at(alloc, p)?;
@@ -96,7 +151,7 @@ impl<S: Stable> World<S> {
         ensures refused { IfErr result IsRefusal }
         ensures counted { result ≡ Err Refusal.Fault → (p : _) × HasFailed self.old p self.new }
         ensures faultless { ((store : S) → S.failed store ≡ 0) → result ≢ Err Refusal.Fault }
-        ensures whole { IsKnown self.new → IsSettled self.old → result ≢ Err Refusal.Damaged }
+        ensures whole { IsKnown self.new → IsWhole self.old → result ≢ Err Refusal.Damaged }
     {
         let count = self.manager.recovery().n();
         let mut manager = new_manager(alloc, count)?;
@@ -109,14 +164,21 @@ impl<S: Stable> World<S> {
     }
 
     // Ends all that runs, and puts a new manager in the place of this one.
-    fn begin_anew(&mut self, manager: Manager)
+    fn begin_anew(&mut self, alloc: Global, manager: Manager, current: bool)
         requires anew { IsAnew self.old manager }
-        requires settled { IsSettled self.old }
-        ensures { self.new ≡ anew self.old manager }
+        requires left { IsLeft self.old (left_run current self.old) }
+        ensures world { self.new ≡ record (anew (along self.old (left_run current self.old)) manager) { live = self.new.live } }
+        ensures live { IsKnown self.new → self.new ≡ anew (along self.old (left_run current self.old)) manager }
     {
         put_down(&mut self.members);
         self.frames.clear();
-        self.live.cut(&manager.recovery());
+        begin_live(
+            alloc,
+            &mut self.live,
+            &mut self.since,
+            &manager.recovery(),
+            current,
+        );
         self.manager = manager;
     }
 
@@ -127,9 +189,9 @@ impl<S: Stable> World<S> {
         ensures counted { IsCounted self.old self.new (answered result) }
         ensures faultless { ((store : S) → S.failed store ≡ 0) → IsFaultless (answered result) }
     {
-        self.is_settled()?;
+        let current = self.settled()?;
         let manager = self.manager_anew(alloc)?;
-        self.begin_anew(manager);
+        self.begin_anew(alloc, manager, current);
         Ok(Answer::Restarted)
     }
 }

@@ -9,7 +9,8 @@ ghost use Rattle.om_manager.specs.Sound.{IsManager};
 ghost use Rattle.om_world.specs.Started.{HaveFirst, IsLoadable, IsNew, IsRefusedAt, IsStarted};
 ghost use Rattle.om_world.specs.steps.Starting.{AreSeated, IsStart};
 
-use crate::live::Live;
+use crate::receipts::Receipts;
+use crate::since::Since;
 use crate::world::World;
 use om_interval::Pid;
 use om_manager::Manager;
@@ -129,11 +130,12 @@ impl<S: Stable> World<S> {
         let members = start_all(alloc, images, stores)?;
         Ok(World {
             images: copies,
-            live: Live::new(alloc),
+            live: Receipts::new(alloc),
             frames: Vec::new(alloc),
             members,
             manager,
             origins,
+            since: Since::new(),
         })
     }
 }

@@ -1,16 +1,18 @@
 //! The world.
 
-ghost use Rattle.std.specs.Prelude.{◌≡◌, ◌<◌, length, map, slice_get, IfOk, IfErr, IfNone, IfSome, IsTrue, Some, true};
+ghost use Rattle.std.specs.Prelude.{◌≡◌, ◌++◌, ◌∷◌, ◌<◌, List, [], length, map, slice_get, IfOk, IfErr, IfNone, IfSome, IsTrue, Some, true};
 ghost use Rattle.om_process.specs.Core.{CoreState, cluster_size};
 ghost use Rattle.om_world.specs.Changes.{IsUp};
 ghost use Rattle.om_world.specs.steps.NotRunning.{NotRunning};
 ghost use Rattle.om_world.specs.Holds.{Holds};
 ghost use Rattle.om_world.specs.World.{IsKnown, all_clean};
+ghost use Rattle.om_world.specs.declared.entry.Entry.{Entry};
 
 use crate::entry::Entry;
 use crate::event::Refusal;
-use crate::live::Live;
 use crate::process_state::ProcessState;
+use crate::receipts::Receipts;
+use crate::since::Since;
 use om_format::Message;
 use om_interval::Pid;
 use om_manager::Manager;
@@ -24,19 +26,21 @@ use std::snapshot::Snapshot;
 #[derive(Drop)]
 pub struct World<S: Stable> {
     pub(crate) images: Vec<Image>,
-    pub(crate) live: Live,
+    pub(crate) live: Receipts,
     pub(crate) frames: Vec<Message>,
     // By process.
     pub(crate) members: Vec<Member<S>>,
     pub(crate) manager: Manager,
     // What the stores were before the start.
     pub(crate) origins: Snapshot<Vec<S>>,
+    // The last finished round.
+    pub(crate) since: Since,
 }
 
 impl<S: Stable> Model for World<S> {
     ghost use Rattle.std.specs.Prelude.{map, ◌≡◌, true};
     ghost use Rattle.om_world.specs.World.{WorldState, program_of};
-    ghost use Rattle.om_world.specs.steps.Codes.{coded_health};
+    ghost use Rattle.om_world.specs.steps.Codes.{coded_health, coded_since};
     ghost use Rattle.om_world.specs.steps.Members.{health_of, seen, sound_in};
     ghost use Rattle.om_world.specs.steps.Sound.{IsWorld};
     ghost use Rattle.om_stable.specs.steps.Codes.{content_code};
@@ -45,22 +49,32 @@ impl<S: Stable> Model for World<S> {
 
     ghost Value = { WorldState };
 
-    ghost coded = { Prim.hlevel (codes, coded_health, content_code, coded_manager) };
+    ghost coded = { Prim.hlevel (codes, coded_health, coded_since, content_code, coded_manager) };
 
     ghost view = { λ w. seen S.content (health_of S.is_clean S.failed) (map program_of w.images.items) w.live.entries
-        w.frames.items w.members.items w.manager (map S.content w.origins.value.items) };
+        w.frames.items w.members.items w.manager (record { origins = map S.content w.origins.value.items; since = w.since }) };
 
     ghost invariant = { λ w. IsWorld (sound_in S.IsSound) w.members.items
         (seen S.content (health_of S.is_clean S.failed) (map program_of w.images.items) w.live.entries w.frames.items
-        w.members.items w.manager (map S.content w.origins.value.items)) };
+        w.members.items w.manager (record { origins = map S.content w.origins.value.items; since = w.since })) };
 }
 
 impl<S: Stable> World<S> {
-    /// Returns what was received and not cut, in order.
-    pub fn live(&self) -> &[Entry]
-        ensures { result.now ≡ self.now.live }
+    /// Returns what was received since the world started or was taken up, and not cut, in order: the end of all that was received.
+    pub fn received(&self) -> &[Entry]
+        ensures { (before : List Entry) × (self.now.live ≡ before ++ result.now) }
     {
-        self.live.entries()
+        self.live.since()
+    }
+
+    /// Returns what was received last: none where that was before the world was taken up, and where nothing was received.
+    pub fn last_received(&self) -> Option<&Entry>
+        ensures { IfSome result (λ entry. (before : List Entry) × (self.now.live ≡ before ++ entry.now ∷ [])) }
+    {
+        match self.received().last() {
+            Some(entry) => Some(entry),
+            None => None,
+        }
     }
 
     /// The manager.

@@ -10,6 +10,11 @@ use std::process::Abort;
 // How often each process runs, sends again, is offered all frames and stores, until nothing more comes.
 const TURNS: usize = 4;
 
+// Behind the round of the script with a failure, behind the return of process 0, and behind that of process 1: process 2 is not back.
+static BETWEEN: [usize; 3] = [11, 12, LAST_BETWEEN];
+
+const LAST_BETWEEN: usize = 13;
+
 // More frames than a script makes.
 const FRAMES: usize = 64;
 
@@ -96,7 +101,7 @@ fn wanted(rt: &impl Abort, alloc: Global, script: &[Event]) -> Vec<u8> {
 }
 
 // A restart leaves all that was released, and in the end the same is released as without one. Returns whether it was refused first,
-// since not all knew the last round.
+// since not all knew the last round and one had stored.
 fn loses_nothing(
     rt: &impl Abort,
     alloc: Global,
@@ -120,21 +125,54 @@ fn loses_nothing(
     is_unsettled
 }
 
-// Between the finish of the round and the last return nobody starts over; at each other point all that was released stays, each
-// process comes back, and in the end the same is released as without a stop.
+// At each point all that was released stays, each process comes back, and in the end the same is released as without a stop; between the
+// finish of the round and the last return too, where nobody stores.
 #[test]
 fn a_restart_at_each_point_loses_nothing(rt: HostRuntime) {
     let alloc = rt.alloc();
     let whole = wanted(&rt, alloc, &RUN_WITH_A_FAILURE);
     assert_eq!(&rt; whole.is_empty(), false);
-    let mut unsettled: usize = 0;
     for count in 0..POINTS {
         let mut world = begun(&rt, alloc, &RUN_WITH_A_FAILURE, count);
-        if loses_nothing(&rt, alloc, &mut world, &whole) {
-            unsettled = unsettled.saturating_add(1);
-        }
+        let is_unsettled = loses_nothing(&rt, alloc, &mut world, &whole);
+        assert!(&rt; !is_unsettled);
     }
-    assert_eq!(&rt; unsettled, 3);
+}
+
+// The round of the script is finished, and not all are back: all starts over, twice; and not where one has stored since, until all are
+// back.
+#[test]
+fn a_restart_before_the_last_return_wants_nothing_stored(rt: HostRuntime) {
+    let alloc = rt.alloc();
+    let whole = wanted(&rt, alloc, &RUN_WITH_A_FAILURE);
+    for count in BETWEEN {
+        let mut world = begun(&rt, alloc, &RUN_WITH_A_FAILURE, count);
+        let first = play(&rt, alloc, &mut world, Event::Restart);
+        assert_eq!(&rt; first, Answer::Restarted);
+        let is_unsettled = loses_nothing(&rt, alloc, &mut world, &whole);
+        assert!(&rt; !is_unsettled);
+    }
+    let mut world = begun(&rt, alloc, &RUN_WITH_A_FAILURE, LAST_BETWEEN);
+    take_all(&rt, alloc, &mut world, 1);
+    assert!(&rt; world.is_settled());
+    let stored = play(&rt, alloc, &mut world, Event::Flush { process: 1 });
+    assert_eq!(&rt; stored, Answer::Noted(1));
+    assert!(&rt; !world.is_settled());
+    let is_unsettled = loses_nothing(&rt, alloc, &mut world, &whole);
+    assert!(&rt; is_unsettled);
+}
+
+// One that is back stores what it has not: nothing stands on a disk that did not before, and all starts over.
+#[test]
+fn a_flush_of_nothing_before_the_last_return_stores_nothing(rt: HostRuntime) {
+    let alloc = rt.alloc();
+    let whole = wanted(&rt, alloc, &RUN_WITH_A_FAILURE);
+    let mut world = begun(&rt, alloc, &RUN_WITH_A_FAILURE, LAST_BETWEEN);
+    let stored = play(&rt, alloc, &mut world, Event::Flush { process: 1 });
+    assert_eq!(&rt; stored, Answer::Noted(0));
+    assert!(&rt; world.is_settled());
+    let is_unsettled = loses_nothing(&rt, alloc, &mut world, &whole);
+    assert!(&rt; !is_unsettled);
 }
 
 // The event that a number stands for: of thirty-six, nine run, nine are offers, and six store.
@@ -176,17 +214,87 @@ fn drawn(rt: &impl Abort, alloc: Global, seed: u64) -> Vec<Event> {
 #[test]
 fn a_restart_in_a_drawn_script_loses_nothing(rt: HostRuntime) {
     let alloc = rt.alloc();
-    let mut unsettled: usize = 0;
     for seed in &SEEDS {
         let script = drawn(&rt, alloc, *seed);
         let whole = wanted(&rt, alloc, &script);
         assert_eq!(&rt; whole.is_empty(), false);
         for count in 0..DRAWN + 1 {
             let mut world = begun(&rt, alloc, &script, count);
-            if loses_nothing(&rt, alloc, &mut world, &whole) {
-                unsettled = unsettled.saturating_add(1);
-            }
+            let is_settled = world.is_settled();
+            let is_unsettled = loses_nothing(&rt, alloc, &mut world, &whole);
+            assert_eq!(&rt; is_unsettled, !is_settled);
         }
     }
-    assert!(&rt; 0 < unsettled);
+}
+
+// Ends the world, and takes up what is left: all that was recovered and released is there, and nothing is received since.
+fn taken_up(rt: &impl Abort, alloc: Global, world: World<MemStable>) -> World<MemStable> {
+    let before = released(rt, alloc, &world);
+    let recovery = world.manager().recovery();
+    assert!(rt; world.is_settled());
+    let left = world.stop(alloc).expect(rt, "memory");
+    let taken = World::take_up(alloc, left);
+    assert!(rt; taken.is_ok());
+    let world = taken.ok().expect(rt, "a world");
+    assert!(rt; recovery.leq(&world.manager().recovery()));
+    assert_eq!(rt; released(rt, alloc, &world).as_slice(), before.as_slice());
+    assert!(rt; world.received().is_empty());
+    assert!(rt; world.last_received().is_none());
+    world
+}
+
+// A chain of two stops, the second after so many further events: in the end the same is released as without any.
+fn two_stops_lose_nothing(
+    rt: &impl Abort,
+    alloc: Global,
+    script: &[Event],
+    count: usize,
+    whole: &[u8],
+) {
+    let mut world = begun(rt, alloc, script, count);
+    if !world.is_settled() {
+        settle(rt, alloc, &mut world);
+    }
+    let mut world = taken_up(rt, alloc, world);
+    resume_all(rt, alloc, &mut world);
+    for event in script.get(count..).unwrap_or(&[]) {
+        let _ = play(rt, alloc, &mut world, *event);
+    }
+    settle(rt, alloc, &mut world);
+    let mut world = taken_up(rt, alloc, world);
+    resume_all(rt, alloc, &mut world);
+    drive(rt, alloc, &mut world);
+    assert_eq!(rt; released(rt, alloc, &world).as_slice(), whole);
+}
+
+// What was stored before two stops and between them is not lost, and nothing is put out twice or otherwise, wherever a script stops.
+#[test]
+fn two_stops_in_a_drawn_script_lose_nothing(rt: HostRuntime) {
+    let alloc = rt.alloc();
+    for seed in &SEEDS {
+        let script = drawn(&rt, alloc, *seed);
+        let whole = wanted(&rt, alloc, &script);
+        assert_eq!(&rt; whole.is_empty(), false);
+        for count in 0..DRAWN + 1 {
+            two_stops_lose_nothing(&rt, alloc, &script, count, &whole);
+        }
+    }
+    let whole = wanted(&rt, alloc, &RUN_WITH_A_FAILURE);
+    for count in 0..POINTS {
+        two_stops_lose_nothing(&rt, alloc, &RUN_WITH_A_FAILURE, count, &whole);
+    }
+}
+
+// What was received since is told, and last of all what came last.
+#[test]
+fn what_is_received_since_is_told(rt: HostRuntime) {
+    let alloc = rt.alloc();
+    let mut world = begun(&rt, alloc, &RUN_WITH_A_FAILURE, 0);
+    settle(&rt, alloc, &mut world);
+    let mut world = taken_up(&rt, alloc, world);
+    resume_all(&rt, alloc, &mut world);
+    drive(&rt, alloc, &mut world);
+    let last = world.last_received().map(|entry| entry.ssn);
+    assert_eq!(&rt; last, world.received().last().map(|entry| entry.ssn));
+    assert!(&rt; last.is_some());
 }

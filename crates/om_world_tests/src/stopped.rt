@@ -13,7 +13,8 @@ fn stopped(rt: &impl Abort, alloc: Global, count: usize) -> Vec<MemStable> {
     let mut world = pair(alloc).expect(rt, "a world");
     let answers = world.play(alloc, events).expect(rt, "memory");
     drop(answers);
-    world.stop(alloc).expect(rt, "memory")
+    let left = world.stop(alloc).expect(rt, "memory");
+    left.into_stores(alloc).expect(rt, "memory")
 }
 
 // Returns how many receipts a store has, where its first checkpoint is there.
@@ -49,6 +50,7 @@ fn laws_of_restarts_are_called(_rt: HostRuntime) {
     laws::a_restart_is_a_start();
     laws::a_chain_is_one_run();
     laws::stores_alone();
+    laws::runs_are_one();
     laws::a_start_in_any_order();
     starts::any_order_is_a_restart();
 }

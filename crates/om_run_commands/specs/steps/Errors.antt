@@ -1,8 +1,8 @@
 -- The errors of a run, as a command tells them.
 use Rattle.om_check.specs.declared.fault.PlayFault.{PlayFault}
 use Rattle.om_check.specs.declared.fault.PlayFault.TheVariants as playing
-use Rattle.om_runner.specs.declared.fault.RunFault.{RunFault}
-use Rattle.om_runner.specs.declared.fault.RunFault.TheVariants as running
+use Rattle.om_report.specs.declared.fault.RunFault.{RunFault}
+use Rattle.om_report.specs.declared.fault.RunFault.TheVariants as running
 use Rattle.om_commands.specs.declared.error.CommandError.{CommandError}
 use Rattle.om_commands.specs.declared.error.CommandError.TheVariants.{NoMemory, StoreFault, StoreInUse, AnotherCluster, StoreMissing, OutOfTurns, GateShut, NoThread, Unlike}
 

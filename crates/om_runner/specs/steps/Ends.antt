@@ -1,39 +1,18 @@
--- What a worker brings back.
-use Rattle.std.specs.Prelude.{◌≡◌, ℕ, ◌<◌, ◌≤◌, List, Bool, IfErr, IfOk, IfSome, IsTrue, Option, None, Some, Result, Ok, Err, Vec, length, slice_get, slice_index_or}
+-- What all workers bring back.
+use Rattle.std.specs.Prelude.{◌≡◌, ℕ, ◌<◌, ◌≤◌, List, Bool, IfOk, IsTrue, Option, None, Some, Result, Ok, Err, Vec, length, slice_get, slice_index_or}
 use Rattle.std.specs.declared.alloc.Global.{Global}
 use Rattle.om_manager.specs.declared.output_log.Output.{Output}
 use Rattle.om_process.specs.Images.{program_of}
-use Rattle.om_process.specs.Process.{Program}
 use Rattle.om_process.specs.declared.image.Image.{Image}
 use Rattle.om_process.specs.declared.status.Status.{Status}
-pub use Rattle.om_runner.specs.Reports.{AreWholeOver}
-use Rattle.om_runner.specs.Reports.{IsWholeRun, process_of}
-use Rattle.om_process.specs.Core.{IsEnd}
-use Rattle.om_runner.specs.declared.config.Config.{Config}
-use Rattle.om_runner.specs.declared.fault.RunFault.{RunFault}
-use Rattle.om_runner.specs.declared.fault.RunFault.TheVariants.{Turns, GateShut, Memory, Fault, Load, StoreInUse, AnotherCluster, StoreMissing, NoThread}
+use Rattle.om_node.specs.Ends.{IsWholeRun}
+use Rattle.om_worker_parts.specs.declared.config.Config.{Config}
+use Rattle.om_report.specs.declared.fault.RunFault.{RunFault}
+use Rattle.om_report.specs.declared.fault.RunFault.TheVariants.{Turns, GateShut, Memory, Fault, Load, StoreInUse, AnotherCluster, StoreMissing, NoThread}
 use Rattle.om_runner.specs.declared.starting.EndOf.{EndOf}
-use Rattle.om_runner.specs.declared.results.Finished.{Finished}
-use Rattle.om_runner.specs.declared.turns.AfterTurn.{AfterTurn}
-use Rattle.om_runner.specs.declared.turns.AfterTurn.TheVariants.{On, Over}
-use Rattle.om_runner.specs.steps.Network.{Lines}
-use Rattle.om_node.specs.Nodes.{Member}
-use Rattle.om_runner.specs.steps.Places.{IsLanded, member_of}
-use Rattle.om_runner.specs.steps.Wiring.{HasEnds}
-
--- how a process ended, with its outputs, its store and its passes: over a clean store the outputs are all that it had made
-pub record IsEndOf {K S : Type 0} (is_clean : S → Bool) (program : Program) (lines : Lines) (own n : ℕ) (f : Finished K S) : Type 0 where
-  pub ended : IsEnd f.status
-  pub own_is : f.harvest.own ≡ own
-  pub whole : IsTrue (is_clean f.store) → IsWholeRun program own n f.status (length f.harvest.outputs.items)
-  pub ends : HasEnds n lines own f.ends
-
--- a turn leaves the process the member that it is, with no flight under way where it does not run on, or it has ended so
-abbrev pub IsTurned : {K J S : Type 0} → (S → Bool) → Member → AfterTurn K J S → Type 0
-IsTurned is_clean m (On place pass) = (member_of place ≡ m) × IsLanded place
-IsTurned is_clean m (Over status harvest store) =
-    IsEnd status × (harvest.own ≡ m.own)
-    × (IsTrue (is_clean store) → IsWholeRun m.program m.own m.n status (length harvest.outputs.items))
+use Rattle.om_worker.specs.declared.finished.Finished.{Finished}
+use Rattle.om_worker_parts.specs.Network.{Lines}
+use Rattle.om_worker.specs.Ends.{IsEndOf, IsOwnEnd}
 
 -- by process: where its store is clean, it comes to its status along its image, and of the outputs that it has then made none
 -- is left out
@@ -56,20 +35,6 @@ pub record IsPromised {S : Type 0} (config : Config) (image : Image) (lines : Li
   pub lines_are : promise.inboxes.now ≡ lines
   pub own_is : promise.own ≡ own
   pub n_is : promise.n ≡ n
-
--- the run gave its workers turns, and let them ask the gate
-pub record IsGiven (config : Config) : Type 0 where
-  pub turns : 1 ≤ config.turns
-  pub gate : 1 ≤ config.gate_turns
-
--- the fault is of this process, or of none
-abbrev pub IsFaultBy : ℕ → RunFault → Type 0
-IsFaultBy own fault = IfSome (process_of fault) (λ pid. pid ≡ own)
-
--- the worker of a process ended well, and then the run gave it turns; or with a fault of its own
-pub record IsOwnEnd {F : Type 0} (config : Config) (own : ℕ) (result : Result F RunFault) : Type 0 where
-  pub given : IfOk result (λ f. IsGiven config)
-  pub fault : IfErr result (IsFaultBy own)
 
 -- so did each of n workers
 abbrev pub AreOwnEnds : {F : Type 0} → Config → ℕ → List (Result F RunFault) → Type 0

@@ -41,6 +41,7 @@ pub record IsSilent (old : WorldState) (p done own n : ℕ) (m : State) (new : W
   pub manager : HoldsMore old.manager p new.manager
   pub released : KeepsReleased old.manager new.manager
   pub contents : new.contents ≡ old.contents
+  pub since : new.since ≡ old.since
 
 -- with some machine
 abbrev pub HasSilent : WorldState → ℕ → ℕ → WorldState → Type 0

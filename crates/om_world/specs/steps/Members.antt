@@ -11,7 +11,7 @@ use Rattle.om_member.specs.declared.member.MemberState.{MemberState}
 use Rattle.om_member.specs.declared.member.MemberState.TheVariants as stands
 use Rattle.om_world.specs.declared.entry.Entry.{Entry}
 use Rattle.om_world.specs.declared.process_state.ProcessState.{ProcessState}
-use Rattle.om_world.specs.World.{Health, WorldState}
+use Rattle.om_world.specs.World.{Health, SinceState, WorldState}
 
 -- how a store of some type stands
 abbrev pub health_of : {S : Type 0} → (S → Bool) → (S → ℕ) → S → Health
@@ -48,10 +48,15 @@ health_in health m = health m.store
 abbrev pub sound_in : {S : Type 0} → (S → Type 0) → Member S → Type 0
 sound_in IsSound m = IsSound m.store
 
+-- what is seen of a world besides its members and their manager
+pub record Besides : Type 0 where
+  pub origins : List Content
+  pub since : SinceState
+
 -- what is seen of a world's parts
 abbrev pub seen : {S : Type 0} → (S → Content) → (S → Health) → List Program → List Entry → List Message → List (Member S)
-    → ManagerState → List Content → WorldState
-seen content health programs live frames members manager origins = record {
+    → ManagerState → Besides → WorldState
+seen content health programs live frames members manager besides = record {
   programs = programs;
   live = live;
   frames = frames;
@@ -61,5 +66,6 @@ seen content health programs live frames members manager origins = record {
   manager = manager;
   contents = map (content_in content) members;
   health = map (health_in health) members;
-  origins = origins;
+  origins = besides.origins;
+  since = besides.since;
 }

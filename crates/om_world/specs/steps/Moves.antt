@@ -1,5 +1,5 @@
 -- What a call makes of the cores.
-use Rattle.std.specs.Prelude.{◌≡◌, ℕ, ◌≤◌, List, length, drop, slice_get, slice_set, true, IsTrue, Option, Some, Result, Ok, Err, IfErr}
+use Rattle.std.specs.Prelude.{◌≡◌, ℕ, ◌≤◌, List, length, drop, slice_get, slice_set, Bool, true, false, IsTrue, Option, None, Some, Result, Ok, Err, IfErr}
 use Rattle.om_stable.specs.Content.{Content}
 use Rattle.om_stable.specs.Count.{Rose}
 use Rattle.om_stable.specs.declared.error.StoreError.{StoreError}
@@ -16,7 +16,7 @@ use Rattle.om_manager.specs.declared.answers.JoinError.TheVariants as joining
 use Rattle.om_process.specs.declared.replay.ReplayFault.{ReplayFault}
 use Rattle.om_process.specs.declared.replay.ReplayFault.TheVariants as replays
 use Rattle.om_manager.specs.declared.answers.RecordError.TheVariants.{Refused}
-use Rattle.om_world.specs.World.{Health, WorldState, IsKnown, all_clean}
+use Rattle.om_world.specs.World.{Health, SinceState, WorldState, IsKnown, all_clean}
 use Rattle.om_format.specs.declared.message.Message.{Message}
 use Rattle.om_process.specs.declared.accept.Accept.{Accept}
 use Rattle.om_process.specs.declared.accept.Accept.TheVariants as accepts
@@ -28,7 +28,7 @@ use Rattle.om_world.specs.declared.event.Event.{Event}
 use Rattle.om_world.specs.declared.event.Refusal.{Refusal}
 use Rattle.om_world.specs.declared.event.Refusal.TheVariants as why
 use Rattle.om_process.specs.Core.{CoreState, CoreTurns, with_now, with_pending, RunsTo}
-use Rattle.om_world.specs.Changes.{HasFailed, NoneFell}
+use Rattle.om_world.specs.Changes.{HasFailed, NoneFell, has_rows, has_stored, stored}
 use Rattle.om_member.specs.declared.batch.Batch.{Batch}
 use Rattle.om_member.specs.declared.batch.Batch.TheVariants.{Checkpoint, First, Log}
 use Rattle.om_member.specs.declared.member.NotUp.{NotUp}
@@ -103,6 +103,25 @@ abbrev pub IsOfLog : Batch → Type 0
 IsOfLog Checkpoint = ⊥
 IsOfLog batch = Unit {0}
 
+-- what is kept of the last finished round, once a store was called
+abbrev pub since_called : Batch → CoreState → Result (Unit {0}) StoreError → SinceState → SinceState
+since_called kind c (Ok done) since = has_stored (has_rows (stored kind c).pending) since
+since_called kind c (Err other) since = since
+
+-- the same by what is told of the call, and by whether rows are pending behind it
+abbrev pub since_told : Bool → Result (Unit {0}) Refusal → SinceState → SinceState
+since_told rows (Ok done) since = has_stored rows since
+since_told rows (Err other) since = since
+
+-- whether rows of a process are pending
+abbrev pub rows_of : Option CoreState → Bool
+rows_of None = false
+rows_of (Some c) = has_rows c.pending
+
+-- where rows of the process are pending, it is kept that a process has stored
+pub record TellsStored (w : WorldState) (p : ℕ) : Type 0 where
+  pub tells : (c : CoreState) → slice_get w.cores p ≡ Some (Some c) → has_rows c.pending ≡ true → w.since.stored ≡ true
+
 -- a process stored a batch of what it keeps, or its store refused; a log's receipts are never there already
 pub record HasCalled (kind : Batch) (old : WorldState) (p : ℕ) (answer : Result (Unit {0}) StoreError) (new : WorldState) : Type 0 where
   pub core : CoreState
@@ -111,7 +130,9 @@ pub record HasCalled (kind : Batch) (old : WorldState) (p : ℕ) (answer : Resul
     cores = slice_set old.cores p (Some (after_store kind core answer));
     contents = new.contents;
     health = new.health;
+    since = new.since;
   }
+  pub since : new.since ≡ since_called kind core answer old.since
   pub did : IsKnown new → (before : Content) × (after : Content) × (slice_get old.contents p ≡ Some before)
       × (new.contents ≡ slice_set old.contents p after) × Gained kind core answer before after
   pub was_clean : all_clean new.health ≡ true → all_clean old.health ≡ true

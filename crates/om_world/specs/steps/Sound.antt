@@ -27,7 +27,8 @@ use Rattle.om_manager.specs.Sound.{IsManager}
 use Rattle.om_manager.specs.State.{ManagerState, held_by, process_count, released_by}
 use Rattle.om_manager.specs.declared.presence.Presence.TheVariants.{Away, Failed, Joined}
 use Rattle.om_world.specs.declared.process_state.ProcessState.{ProcessState}
-use Rattle.om_world.specs.Live.{program_at, Legal}
+use Rattle.om_world.specs.declared.entry.Entry.{Entry}
+use Rattle.om_world.specs.Live.{program_at, received, Legal}
 use Rattle.om_world.specs.World.{WorldState, recovered, output_entry, IsKnown}
 use Rattle.om_world.specs.steps.Past.{Past, past_of, history}
 use Rattle.om_world.specs.Failures.{HasNews}
@@ -182,7 +183,20 @@ pub record Sound (w : WorldState) : Type 0 where
   pub beyond : (p : ℕ) (c : CoreState) → slice_get w.cores p ≡ Some (Some c) → slice_get w.places p ≡ Some ProcessState.In → HasNews w p
       → is_named w.manager.backs p ≡ true → slice_index w.manager.last p < c.now.interval
 
--- what a world keeps, over its stores
+-- the world before its last finished round cut what was received
+abbrev pub before_of : WorldState → Past
+before_of w = record { programs = w.programs; live = w.since.before; manager = w.manager }
+
+-- what had been received is a run without failures, of which the recovery state still leaves the same as of what is received now; and what
+-- stands in the stores is true of it
+pub record IsBetween (v : Past) (live : List Entry) (contents : List Content) : Type 0 where
+  pub legal : Legal v.programs v.live
+  pub same : (p : ℕ) → take (recovered v.manager p) (history v p) ≡ take (recovered v.manager p) (received p live)
+  pub stored : (p : ℕ) (held : Content) → slice_get contents p ≡ Some held → IsStored v p held
+  pub ends : (p : ℕ) (held : Content) → slice_get contents p ≡ Some held → EndsAt held (length (history v p))
+
+-- what a world keeps, over its stores; the last while none has stored since the last finished round
 pub record IsWorld {S : Type 0} (IsSound : S → Type 0) (stores : List S) (w : WorldState) : Type 0 where
   pub shape : HasShape w
   pub clean : IsKnown w → AllByRecursion IsSound stores × Sound w
+  pub between : IsKnown w → w.since.stored ≡ false → IsBetween (before_of w) w.live w.contents

@@ -2,8 +2,8 @@ use Rattle.std.proofs.Common.{◌≡◌, ◌∙◌, ap, subst, sym}
 use Rattle.std.specs.Prelude.{Vec}
 use Rattle.std.specs.declared.alloc.Global.{Global}
 use Rattle.om_process.specs.declared.status.Status.{Status}
-use Rattle.om_runner.specs.steps.Ends.{AreWholeOver}
-use Rattle.om_runner.specs.steps.Harvests.{HarvestState, harvested}
+use Rattle.om_runner.specs.Reports.{AreWholeOver}
+use Rattle.om_report.specs.Harvests.{HarvestState, harvested}
 use Rattle.om_runner.proofs.cluster.close.Goals as goal
 
 pub returns-clause-whole : goal.returns-clause-whole

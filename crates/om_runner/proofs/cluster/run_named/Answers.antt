@@ -1,7 +1,7 @@
 use Rattle.std.proofs.Common.{◌≡◌, ◌∙◌, Ok, length, ap, sym}
 use Rattle.om_board.specs.CellNames.{CellName}
-use Rattle.om_runner.specs.declared.fault.RunFault.{RunFault}
-use Rattle.om_runner.specs.declared.report.Report.{Report}
+use Rattle.om_report.specs.declared.fault.RunFault.{RunFault}
+use Rattle.om_report.specs.declared.report.Report.{Report}
 use Rattle.om_runner.proofs.ReportLemmas.{last_on, made_of_images}
 use Rattle.om_runner.proofs.cluster.run_named.Goals as goal
 

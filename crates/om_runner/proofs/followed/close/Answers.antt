@@ -3,11 +3,12 @@ use Rattle.std.specs.Prelude.{IfErr, IfOk, Vec}
 use Rattle.std.specs.declared.alloc.Global.{Global}
 use Rattle.std.proofs.lemmas.List.{length-map}
 use Rattle.om_process.specs.declared.status.Status.{Status}
-use Rattle.om_runner.specs.Released.{AreAllMade}
-use Rattle.om_runner.specs.Telling.{AreInOrder, AreToldMade, Told, TellsAll}
-use Rattle.om_runner.specs.declared.follower.FollowFault.TheVariants.{Unwanted}
-use Rattle.om_runner.specs.steps.Ends.{AreWholeOver, HaveAllOver}
-use Rattle.om_runner.specs.steps.Harvests.{AreNoFewer, HarvestState, harvested}
+use Rattle.om_report.specs.Released.{AreAllMade}
+use Rattle.om_report.specs.Telling.{AreInOrder, AreToldMade, Told, TellsAll}
+use Rattle.om_report.specs.declared.follower.FollowFault.TheVariants.{Unwanted}
+use Rattle.om_runner.specs.Reports.{AreWholeOver}
+use Rattle.om_runner.specs.steps.Ends.{HaveAllOver}
+use Rattle.om_report.specs.Harvests.{AreNoFewer, HarvestState, harvested}
 use Rattle.om_runner.proofs.ReportLemmas.{have_more}
 use Rattle.om_runner.proofs.followed.close.Goals as goal
 

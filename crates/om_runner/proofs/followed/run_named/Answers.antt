@@ -1,12 +1,12 @@
 use Rattle.std.proofs.Common.{◌≡◌, ◌≢◌, ◌∙◌, ℕ, List, length, ap, subst, sym}
 use Rattle.std.specs.Prelude.{IfErr}
 use Rattle.om_board.specs.CellNames.{CellName}
-use Rattle.om_runner.proofs.FollowLemmas.{told_at_start}
+use Rattle.om_runner.proofs.ToldLemmas.{told_at_start}
 use Rattle.om_runner.proofs.ReportLemmas.{made_of_images}
 use Rattle.om_process.specs.Process.{Program}
-use Rattle.om_runner.specs.Telling.{AreInOrder, AreToldMade, Told}
-use Rattle.om_runner.specs.declared.follower.FollowFault.TheVariants.{Unwanted}
-use Rattle.om_runner.specs.steps.Following.{IsTold}
+use Rattle.om_report.specs.Telling.{AreInOrder, AreToldMade, Told}
+use Rattle.om_report.specs.declared.follower.FollowFault.TheVariants.{Unwanted}
+use Rattle.om_report.specs.Following.{IsTold}
 use Rattle.om_runner.proofs.followed.run_named.Goals as goal
 
 pub returns-clause-told : goal.returns-clause-told

@@ -1,5 +1,5 @@
 use Rattle.std.proofs.Common.{rules}
-use Rattle.om_runner.proofs.ReportLemmas.{moved}
+use Rattle.om_report.proofs.HarvestLemmas.{moved}
 use Rattle.om_runner.proofs.results.parted.Goals as goal
 
 pub loop-one-preserved : goal.loop-one-preserved

@@ -26,9 +26,9 @@ returns-in_err-told g c =
 pub invariant_of-self-2 : goal.invariant_of-self-2
 invariant_of-self-2 g c =
     let at = lent_at _ c.args.p _ (here g.S.Stable.content (health_of g.S.Stable.is_clean g.S.Stable.failed) g.S.Stable.IsSound _ _ _ _ _ _ c.args.p _ c.self.invariant c.self.view_is (there_at _ _ _ _ c.args.p c.self.invariant c.self.view_is _ c.requires)) c.index_mut-member.ensures.value in
-    after_declared g.S.Stable.content (health_of g.S.Stable.is_clean g.S.Stable.failed) g.S.Stable.IsSound _ _ _ _ _ _ c.args.p _ at _ _ c.self.invariant c.self.view_is c.at.result c.at.ensures c.declare.new.access c.requires c.in_ok-told.told c.in_ok-told.ensures c.cut_where_finished.new.live.entries c.cut_where_finished.ensures
+    after_declared g.S.Stable.content (health_of g.S.Stable.is_clean g.S.Stable.failed) g.S.Stable.IsSound _ _ _ _ _ _ c.args.p _ at _ _ c.self.invariant c.self.view_is c.at.result c.at.ensures c.declare.new.access c.requires c.in_ok-told.told c.in_ok-told.ensures c.cut_where_finished.new.live.entries c.cut_where_finished.ensures.live c.cut_where_finished.new.since c.cut_where_finished.ensures.since
 
 pub returns : goal.returns
 returns g c =
     let at = lent_at _ c.args.p _ (here g.S.Stable.content (health_of g.S.Stable.is_clean g.S.Stable.failed) g.S.Stable.IsSound _ _ _ _ _ _ c.args.p _ c.self.invariant c.self.view_is (there_at _ _ _ _ c.args.p c.self.invariant c.self.view_is _ c.requires)) c.index_mut-member.ensures.value in
-    was_declared g.S.Stable.content (health_of g.S.Stable.is_clean g.S.Stable.failed) g.S.Stable.IsSound _ _ _ _ _ _ c.args.p _ at _ _ c.self.invariant c.self.view_is c.at.result c.at.ensures c.declare.new.access c.requires c.in_ok-told.told c.in_ok-told.ensures c.cut_where_finished.new.live.entries c.cut_where_finished.ensures
+    was_declared g.S.Stable.content (health_of g.S.Stable.is_clean g.S.Stable.failed) g.S.Stable.IsSound _ _ _ _ _ _ c.args.p _ at _ _ c.self.invariant c.self.view_is c.at.result c.at.ensures c.declare.new.access c.requires c.in_ok-told.told c.in_ok-told.ensures c.cut_where_finished.new.live.entries c.cut_where_finished.ensures.live c.cut_where_finished.new.since c.cut_where_finished.ensures.since

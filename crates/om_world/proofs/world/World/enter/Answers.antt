@@ -27,9 +27,9 @@ returns-in_err-told g c =
 pub invariant_of-self-2 : goal.invariant_of-self-2
 invariant_of-self-2 g c =
     let at = lent_at _ c.args.p _ (up_here g.S.Stable.content (health_of g.S.Stable.is_clean g.S.Stable.failed) g.S.Stable.IsSound _ _ _ _ _ _ c.args.p _ c.self.view_is c.requires) c.index_mut-member.ensures.value in
-    after_enter g.S.Stable.content (health_of g.S.Stable.is_clean g.S.Stable.failed) g.S.Stable.IsSound _ _ _ _ _ _ c.args.p _ at _ _ c.self.invariant c.self.view_is c.at.result c.at.ensures c.join.new.access c.requires c.join.result c.join.ensures.joined c.join.ensures.not_up c.told_joined.result c.in_ok-told.told c.told_joined.ensures c.in_ok-told.was c.cut_where_finished.new.live.entries c.cut_where_finished.ensures
+    after_enter g.S.Stable.content (health_of g.S.Stable.is_clean g.S.Stable.failed) g.S.Stable.IsSound _ _ _ _ _ _ c.args.p _ at _ _ c.self.invariant c.self.view_is c.at.result c.at.ensures c.join.new.access c.requires c.join.result c.join.ensures.joined c.join.ensures.not_up c.told_joined.result c.in_ok-told.told c.told_joined.ensures c.in_ok-told.was c.cut_where_finished.new.live.entries c.cut_where_finished.ensures.live c.cut_where_finished.new.since c.cut_where_finished.ensures.since
 
 pub returns : goal.returns
 returns g c =
     let at = lent_at _ c.args.p _ (up_here g.S.Stable.content (health_of g.S.Stable.is_clean g.S.Stable.failed) g.S.Stable.IsSound _ _ _ _ _ _ c.args.p _ c.self.view_is c.requires) c.index_mut-member.ensures.value in
-    entered g.S.Stable.content (health_of g.S.Stable.is_clean g.S.Stable.failed) g.S.Stable.IsSound _ _ _ _ _ _ c.args.p _ at _ _ c.self.invariant c.self.view_is c.at.result c.at.ensures c.join.new.access c.requires c.join.result c.join.ensures.joined c.join.ensures.not_up c.told_joined.result c.in_ok-told.told c.told_joined.ensures c.in_ok-told.was c.cut_where_finished.new.live.entries c.cut_where_finished.ensures
+    entered g.S.Stable.content (health_of g.S.Stable.is_clean g.S.Stable.failed) g.S.Stable.IsSound _ _ _ _ _ _ c.args.p _ at _ _ c.self.invariant c.self.view_is c.at.result c.at.ensures c.join.new.access c.requires c.join.result c.join.ensures.joined c.join.ensures.not_up c.told_joined.result c.in_ok-told.told c.told_joined.ensures c.in_ok-told.was c.cut_where_finished.new.live.entries c.cut_where_finished.ensures.live c.cut_where_finished.new.since c.cut_where_finished.ensures.since

@@ -1,31 +1,56 @@
-use Rattle.std.proofs.Common.{◌≡◌, IfOk, OnOk, Result, Ok, Err, List, [], ◌∷◌, map, refl, sym, ap, ◌∙◌, subst}
-use Rattle.om_member.specs.declared.member.Member.{Member}
-use Rattle.om_stable.specs.Content.{Content}
+use Rattle.std.proofs.Common.{◌∙◌, subst, sym}
 use Rattle.om_world.specs.Disk.{IsOnDisk}
+use Rattle.om_world.specs.Stopped.{AreCurrent, IsLeft, along}
 use Rattle.om_world.specs.World.{IsKnown, WorldState}
-use Rattle.om_world.specs.steps.Members.{content_in, store_in}
-use Rattle.om_world.specs.steps.Sound.{HasShape, Sound}
-use Rattle.om_world.proofs.Disk.{on_disk}
+use Rattle.om_world.specs.steps.Members.{health_of, sound_in}
+use Rattle.om_world.specs.steps.Stopping.{AreReleasedBy}
+use Rattle.om_world.proofs.StoppingLemmas.{after_stopped, left_stopped, run_disk, still_current, still_news, stopped_disk, was_stopped}
 use Rattle.om_world.proofs.world.World.stop.Goals as goal
 
-on_ok : {T E : Type 0} (r : Result T E) (P : Type 0) → P → OnOk r P
-on_ok (Ok x) P p = p
-on_ok (Err e) P p = tt
+pub invariant_of-result : goal.invariant_of-result
+invariant_of-result g c =
+    let s = g.S.Stable in
+    let is = was_stopped s.content (health_of s.is_clean s.failed) s.IsSound _ _ _ c.self.inside.members.items _ _ c.args.self c.self.invariant c.self.view_is
+    c.end_all.new.members.items c.end_all.ensures c.all-live.result.entries c.all-live.ensures c.of-manager.result.value c.of-manager.ensures in
+    record {
+      world = after_stopped s.content (health_of s.is_clean s.failed) s.IsSound _ _ _ c.self.inside.members.items _ _ c.args.self c.self.invariant c.self.view_is
+          c.end_all.new.members.items c.end_all.ensures c.all-live.result.entries c.all-live.ensures c.of-manager.result.value c.of-manager.ensures;
+      many = c.in_ok-released.ensures.long ∙ c.self.invariant.shape.size;
+      released = subst (λ m. AreReleasedBy m c.in_ok-released.released.items) (sym c.of-manager.ensures) c.in_ok-released.ensures.released;
+      current = λ yes. still_current c.args.self _ is (c.is_current-current.ensures.current yes);
+      news = λ no. still_news c.args.self _ is (c.is_current-current.ensures.news no);
+    }
 
-if_ok : {T E : Type 0} (r : Result T E) (P Q : T → Type 0) → ((x : T) → P x → Q x) → IfOk r P → IfOk r Q
-if_ok (Ok x) P Q more p = more x p
-if_ok (Err e) P Q more p = tt
+pub returns-clause-left : goal.returns-clause-left
+returns-clause-left g c =
+    let s = g.S.Stable in
+    was_stopped s.content (health_of s.is_clean s.failed) s.IsSound _ _ _ c.self.inside.members.items _ _ c.args.self c.self.invariant c.self.view_is
+    c.end_all.new.members.items c.end_all.ensures c.all-live.result.entries c.all-live.ensures c.of-manager.result.value c.of-manager.ensures
 
-same_contents : {S : Type 0} (content : S → Content) (members : List (Member S)) → map content (map store_in members) ≡ map (content_in content) members
-same_contents content [] = refl
-same_contents content (m ∷ members) = ap (λ cs. content m.store ∷ cs) (same_contents content members)
+pub returns-clause-current : goal.returns-clause-current
+returns-clause-current g c = λ current.
+    let s = g.S.Stable in
+    subst AreCurrent
+    (sym (was_stopped s.content (health_of s.is_clean s.failed) s.IsSound _ _ _ c.self.inside.members.items _ _ c.args.self c.self.invariant c.self.view_is
+    c.end_all.new.members.items c.end_all.ensures c.all-live.result.entries c.all-live.ensures c.of-manager.result.value c.of-manager.ensures)) current
 
-pub returns-clause-stores : goal.returns-clause-stores
-returns-clause-stores g c =
-    if_ok c.stores_of.result _ _
-    (λ stores all. ap (map g.S.Stable.content) all ∙ same_contents g.S.Stable.content c.self.inside.members.items ∙ ap (λ (w : WorldState). w.contents) c.self.view_is) c.stores_of.ensures
+pub returns-clause-whole : goal.returns-clause-whole
+returns-clause-whole g c = λ run left.
+    let s = g.S.Stable in
+    subst (λ (w : WorldState). IsLeft w run)
+    (sym (was_stopped s.content (health_of s.is_clean s.failed) s.IsSound _ _ _ c.self.inside.members.items _ _ c.args.self c.self.invariant c.self.view_is
+    c.end_all.new.members.items c.end_all.ensures c.all-live.result.entries c.all-live.ensures c.of-manager.result.value c.of-manager.ensures)) (left_stopped c.args.self run left)
 
 pub returns-clause-disk : goal.returns-clause-disk
-returns-clause-disk g c = λ known up.
-    on_ok c.stores_of.result (IsOnDisk c.args.self)
-    (on_disk c.args.self (subst HasShape c.self.view_is c.self.invariant.shape) (subst Sound c.self.view_is (c.self.invariant.clean (subst IsKnown (sym c.self.view_is) known)).1) up)
+returns-clause-disk g c = λ known settled.
+    let s = g.S.Stable in
+    let is = was_stopped s.content (health_of s.is_clean s.failed) s.IsSound _ _ _ c.self.inside.members.items _ _ c.args.self c.self.invariant c.self.view_is
+    c.end_all.new.members.items c.end_all.ensures c.all-live.result.entries c.all-live.ensures c.of-manager.result.value c.of-manager.ensures in
+    subst IsOnDisk (sym is) (stopped_disk (sound_in s.IsSound) _ _ c.args.self c.self.invariant c.self.view_is (subst IsKnown is known) settled)
+
+pub returns-clause-between : goal.returns-clause-between
+returns-clause-between g c = λ known run left.
+    let s = g.S.Stable in
+    let is = was_stopped s.content (health_of s.is_clean s.failed) s.IsSound _ _ _ c.self.inside.members.items _ _ c.args.self c.self.invariant c.self.view_is
+    c.end_all.new.members.items c.end_all.ensures c.all-live.result.entries c.all-live.ensures c.of-manager.result.value c.of-manager.ensures in
+    subst (λ (w : WorldState). IsOnDisk (along w run)) (sym is) (run_disk (sound_in s.IsSound) _ _ c.args.self run c.self.invariant c.self.view_is (subst IsKnown is known) (subst (λ (w : WorldState). IsLeft w run) is left))

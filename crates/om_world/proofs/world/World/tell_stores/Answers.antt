@@ -9,7 +9,7 @@ use Rattle.om_take_up.specs.TakenUp.{HasTakenUp, IsTakenUp}
 use Rattle.om_world.specs.World.{WorldState}
 use Rattle.om_world.specs.steps.Restarting.{IsRefusal, refusal_of_rows, refusal_of_take_up}
 use Rattle.om_world.proofs.Lists.{once_err}
-use Rattle.om_world.proofs.Reading.{failed_read, none_told, one_told, read_then, rows_fault, settled_after, taking_refusal}
+use Rattle.om_world.proofs.Reading.{failed_read, none_told, one_told, read_then, rows_fault, whole_after, taking_refusal}
 use Rattle.om_world.proofs.Undamaged.{taken_stand}
 use Rattle.om_world.proofs.world.World.tell_stores.Goals as goal
 
@@ -43,10 +43,10 @@ returns-in_err-rows-clause-counted g c = λ is.
     (c.loop-p.p, failed_read c.args.self.now c.loop-p.self c.rows_at.new.self c.loop-p.p c.loop-p.invariant.read (c.rows_at.ensures.counted (c.in_err-rows.was ∙ ap (λ e. Err e) failed)))
 
 pub returns-in_err-rows-clause-whole : goal.returns-in_err-rows-clause-whole
-returns-in_err-rows-clause-whole g c = λ known settled is.
+returns-in_err-rows-clause-whole g c = λ known whole is.
     let fault = c.in_err-rows.field-0.0 in
     let from : c.from_residual.result ≡ Err (refusal_of_rows fault) = search rules in
-    c.in_err-rows.ensures.whole known (settled_after c.args.self.now c.loop-p.self c.loop-p.invariant.read settled) (once_err c.from_residual.result _ _ from is)
+    c.in_err-rows.ensures.whole known (whole_after c.args.self.now c.loop-p.self c.loop-p.invariant.read whole) (once_err c.from_residual.result _ _ from is)
 
 pub returns-in_err-take_up-clause-read : goal.returns-in_err-take_up-clause-read
 returns-in_err-take_up-clause-read g c = read_then c.args.self.now c.loop-p.self c.rows_at.new.self c.loop-p.invariant.read c.rows_at.ensures.read
@@ -70,13 +70,13 @@ returns-in_err-take_up-clause-faultless g c = λ never is.
     (taking_refusal fault).1 (once_err c.from_residual-in_err-take_up.result _ _ from is)
 
 pub returns-in_err-take_up-clause-whole : goal.returns-in_err-take_up-clause-whole
-returns-in_err-take_up-clause-whole g c = λ known settled is.
+returns-in_err-take_up-clause-whole g c = λ known whole is.
     let m = c.loop-p.manager in let next = c.take_up.new.access in let rows = c.in_ok-rows.rows.items in let p = c.loop-p.p in let new = c.rows_at.new.self in
     let outputs = c.released.result.now in let made = map made_of outputs in let programs = c.args.self.now.programs in
     let fault = c.in_err-take_up.field-0.0 in
     let from : c.from_residual-in_err-take_up.result ≡ Err (refusal_of_take_up fault) = search rules in
     let lt : p < length programs = subst (λ n. p < n) c.size-p-end.ensures.programs c.loop-p-test.true in
-    let mid = settled_after c.args.self.now c.loop-p.self c.loop-p.invariant.read settled in
+    let mid = whole_after c.args.self.now c.loop-p.self c.loop-p.invariant.read whole in
     let released : map held_of outputs ≡ released_by new.manager p =
     c.released.ensures.outputs ∙ ap (released_by c.self.inside.manager) c.at-pid.ensures ∙ ap (λ (w : WorldState). released_by w.manager p) c.self.view_is in
     let taken : IsTakenUp m 0 p rows made (Err fault) next =
@@ -87,7 +87,7 @@ returns-in_err-take_up-clause-whole g c = λ known settled is.
     ap (λ (w : WorldState). length w.programs) c.rows_at.ensures.read.others ∙ ap (λ (w : WorldState). length w.programs) c.loop-p.invariant.read.others in
     let size : process_count new.manager ≡ length programs =
     sym (ap (λ (w : WorldState). process_count w.manager) c.self.view_is) ∙ c.self.invariant.shape.size ∙ ap (λ (w : WorldState). length w.programs) c.self.view_is ∙ same in
-    taken_stand c.args.self.now c.loop-p.self new c.args.manager.now m next p rows outputs fault lt c.requires.fresh c.loop-p.invariant c.rows_at.ensures.read known (c.rows_at.ensures.stands known mid) (c.in_ok-rows.ensures.rows known)
+    taken_stand c.args.self.now c.loop-p.self new mid.0 c.args.manager.now m next p rows outputs fault lt c.requires.fresh c.loop-p.invariant c.rows_at.ensures.read known (c.rows_at.ensures.stands known mid.0 mid.1) (c.in_ok-rows.ensures.rows known)
     (subst (λ (w : WorldState). IsManager w.manager) c.self.view_is c.self.invariant.shape.manager) size released c.released.ensures.numbered taken
     (once_err c.from_residual-in_err-take_up.result _ _ from is)
 

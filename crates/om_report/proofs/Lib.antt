@@ -1,0 +1,3 @@
+pub mod HarvestLemmas
+pub mod ReleasedLemmas
+mod FollowLemmas

@@ -1,0 +1,7 @@
+pub mod Faults
+pub mod Following
+pub mod Harvests
+pub mod Locks
+pub mod Released
+pub mod Telling
+pub mod steps

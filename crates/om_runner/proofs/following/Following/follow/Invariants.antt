@@ -1,6 +1,0 @@
-use Rattle.om_runner.specs.steps.Following.{IsFollowed}
-use Rattle.om_runner.proofs.following.Following.follow.Given as goal
-
-abbrev pub invariant-loop : goal.invariant-loop
-invariant-loop g l = (start : g.row.F.Denot) → IsFollowed g.F.Follower.Tells start l.fn.self.lanes.items l.fn.self.fault l.fn.self.follower
-    → IsFollowed g.F.Follower.Tells start l.following.lanes.items l.following.fault l.following.follower

@@ -1,4 +1,0 @@
-use Rattle.om_runner.proofs.manager_link.ManagerLink.withdraw.Goals as goal
-
-pub returns : goal.returns
-returns g c = (_, c.withdraw_at.new.board, c.withdraw_at.ensures.sound, c.withdraw_at.ensures.withdrawn)

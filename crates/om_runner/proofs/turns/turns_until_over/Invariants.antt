@@ -1,9 +1,0 @@
-use Rattle.std.proofs.Common.{◌≡◌, ◌≤◌}
-use Rattle.om_runner.specs.steps.Places.{IsLanded, member_of}
-use Rattle.om_runner.proofs.turns.turns_until_over.Given as goal
-
-abbrev pub invariant-loop-left : goal.invariant-loop-left
-invariant-loop-left g l = (l.worker.links ≡ l.fn.worker.links) × (member_of l.place ≡ member_of l.fn.place) × (l.left ≤ l.fn.turns) × IsLanded l.place
-
-abbrev pub decreases-loop-left : goal.decreases-loop-left
-decreases-loop-left g l = l.left

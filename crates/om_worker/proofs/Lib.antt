@@ -1,0 +1,2 @@
+mod LinkLemmas
+mod StoreLemmas

@@ -1,0 +1,24 @@
+use Rattle.std.proofs.Common.{◌≡◌, ℕ, [], ap, ◌∙◌, false, inr, length, subst, sym}
+use Rattle.std.specs.Prelude.{IfSome}
+use Rattle.om_member.specs.Handed.{outputs_from}
+use Rattle.om_process.specs.Core.{CoreState}
+use Rattle.om_node.specs.Nodes.{Member}
+use Rattle.om_worker.proofs.worker.Worker.report.Goals as goal
+
+pub apply_limits-requires : goal.apply_limits-requires
+apply_limits-requires g c =
+    let met = c.in_ok-standing.ensures in
+    subst (λ (n : ℕ). IfSome c.in_ok-standing.limits (λ l. length l.bounds.got ≡ n)) (sym (ap (λ (m : Member). m.n) met.member ∙ c.requires.size)) met.limits
+
+pub returns-clause-reported : goal.returns-clause-reported
+returns-clause-reported g c = inr (c.has_ended-ended.result, c.has_ended-ended.ensures, c.in_ok-standing.limits, c.meet.new.node.core, c.in_ok-standing.ensures.met)
+
+pub returns-clause-idle : goal.returns-clause-idle
+returns-clause-idle g c = λ runs calm told made.
+    let link = c.args.self.now.manager_link in
+    let core = c.core.ensures.core in
+    let none : c.is_due.result ≡ false =
+    c.is_due.ensures.nothing (λ yes. runs (c.has_ended-ended.ensures.0 yes)) calm
+    (subst (λ (d : CoreState). d.pending ≡ []) (sym core) told)
+    (subst (λ (d : CoreState). outputs_from d link.handed ≡ []) (sym core) made) in
+    let due = c.if-not-is_due.false in cc

@@ -1,0 +1,12 @@
+use Rattle.std.proofs.Common.{ℕ, ◌∙◌, inr, subst, sym}
+use Rattle.std.specs.Prelude.{IfSome, Option}
+use Rattle.om_worker_parts.specs.declared.manager_link.RoundOutcome.{RoundOutcome}
+use Rattle.om_worker.specs.steps.Turning.{WasTold}
+use Rattle.om_worker.proofs.worker.Worker.wait_down.Goals as goal
+
+pub returns-in_ok-place-in-Some-clause-turned : goal.returns-in_ok-place-in-Some-clause-turned
+returns-in_ok-place-in-Some-clause-turned g c =
+    let w = c.args.self.now in let n = g.K.Naming.cell.n in let told = c.in-Some.told in
+    let heard : WasTold n w.manager_link.pid told =
+    subst (λ (o : Option RoundOutcome). IfSome o (λ t. WasTold n w.manager_link.pid t)) c.in-Some.is c.in_ok-told.ensures.heard in
+    inr (told, subst (λ (p : ℕ). WasTold n p told) (sym (c.requires.own ∙ w.linked)) heard, c.in_ok-place-in-Some.ensures.back)

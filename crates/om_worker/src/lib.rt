@@ -1,0 +1,29 @@
+//! The thread of one process of a cluster, over the board, the frontier and the inboxes that all share.
+//!
+//! A turn of a worker takes the lock only where there is something to tell or to learn, and one that waits for a round reads
+//! the frontier without it; a worker that has nothing to do sleeps. The kit's locks and channels are trusted, and the
+//! stores as far as they say that they are clean.
+//!
+//! In an order of reading:
+//!
+//! - `ground`: what all threads have in common; `working`: what each does, from the gate to the end; `finished`: what it brings back
+//! - `taking_up`: how a process is taken up from what an earlier run left
+//! - `turns` and `worker`: what a thread does, turn by turn; `worker::rounds`, `worker::storing`, `worker::resting`
+//! - what a worker has: its node (om_node), its way to the manager (om_worker_parts), `links` (its ends of inboxes), `received` (what a resend may leave out)
+#![tactic(auto)]
+
+mod finished;
+mod ground;
+mod links;
+mod received;
+mod taking_up;
+mod turns;
+mod worker;
+mod working;
+
+pub use finished::Finished;
+pub use ground::{Cluster, Ground, ground_of, stop_all};
+pub use links::Links;
+pub use received::Received;
+pub use taking_up::Census;
+pub use working::{Job, work_or_stop};

@@ -1,0 +1,271 @@
+//! How a process is taken up from what an earlier run left of it.
+//!
+//! A restart is a round in which all processes have failed, under a manager that was told first what the stores hold. Nothing is
+//! written before all have looked at their stores.
+
+ghost use Rattle.std.specs.Prelude.{◌≡◌, ◌≤◌, IfErr, IfOk, length};
+ghost use Rattle.om_interval.specs.declared.pid.TheConstants.{MAX_PROCESSES};
+ghost use Rattle.om_process.specs.Images.{program_of};
+ghost use Rattle.om_node.specs.Stores.{AreNeverClean};
+ghost use Rattle.om_report.specs.Faults.{IsFaultBy};
+ghost use Rattle.om_node.specs.Nodes.{AreAlwaysClean};
+ghost use Rattle.om_worker.specs.steps.Refusals.{refusal_of_found, refusal_of_opening};
+
+use crate::ground::Cluster;
+use crate::worker::Worker;
+use om_board::Naming;
+use om_interval::{MAX_PROCESSES, Pid};
+use om_look::about_of;
+use om_node::{DownNode, FlightChannel};
+use om_process::{Image, ProcCore};
+use om_report::RunFault;
+use om_restart::{FindFault, Found, find};
+use om_stable::{Ledger, LedgerTable, StoreError};
+use om_tickets::Series;
+use om_worker_parts::{OpenFault, Opener, load_fault, run_fault};
+use std::alloc::{AllocError, Global};
+use std::sync::Wait;
+use std::sync::atomic::AtomicU64;
+use std::sync::atomic::Ordering::SeqCst;
+use std::time::Clock;
+
+/// Counts how far the processes have come that look at their stores.
+#[derive(Drop)]
+pub struct Census {
+    // How many stores are opened. That of process 0 is the first: of two programs over the same stores one is refused there, before
+    // it has touched another.
+    opened: AtomicU64,
+    // How many processes have looked, and found nothing that is refused.
+    looked: AtomicU64,
+    // How many of these hold more than a start.
+    beyond: AtomicU64,
+}
+
+impl Census {
+    // Of a run in which nobody has looked.
+    pub(crate) fn new() -> Census {
+        Census {
+            opened: AtomicU64::new(0),
+            looked: AtomicU64::new(0),
+            beyond: AtomicU64::new(0),
+        }
+    }
+
+    // A store is opened.
+    fn open(&self) {
+        self.opened.fetch_add(1, SeqCst);
+    }
+
+    // A process has looked, and found this. What lies beyond a start is counted first: who sees that all have looked sees it too.
+    fn look(&self, found: &Found) {
+        if found.is_beyond_start() {
+            self.beyond.fetch_add(1, SeqCst);
+        }
+        self.looked.fetch_add(1, SeqCst);
+    }
+
+    // Returns whether a store that has no checkpoint was lost: others hold more than a start.
+    fn misses(&self, found: &Found) -> bool {
+        !found.is_begun() && self.beyond.load(SeqCst) > 0
+    }
+}
+
+// As the run's caller is told why a store is not taken up.
+fn found_fault(fault: FindFault, pid: Pid) -> RunFault
+    ensures named { result ≡ refusal_of_found fault pid }
+    ensures fault { IsFaultBy pid result }
+{
+    match fault {
+        FindFault::Another => RunFault::AnotherCluster(pid),
+        FindFault::Memory => RunFault::Memory,
+        FindFault::Damaged(_)
+        | FindFault::Mismatch(_)
+        | FindFault::Output(_)
+        | FindFault::Senders(_)
+        | FindFault::Fault => RunFault::Fault(pid),
+    }
+}
+
+// As the run's caller is told why a store was not made.
+pub(crate) fn open_fault(fault: OpenFault, pid: Pid) -> RunFault
+    ensures named { result ≡ refusal_of_opening fault pid }
+    ensures fault { IsFaultBy pid result }
+{
+    match fault {
+        OpenFault::Memory => RunFault::Memory,
+        OpenFault::Refused => RunFault::Load(pid),
+        OpenFault::InUse => RunFault::StoreInUse(pid),
+    }
+}
+
+// As the run's caller is told why a store did not take what it says that it is of.
+fn put_fault(error: StoreError, pid: Pid) -> RunFault
+    ensures { IsFaultBy pid result }
+{
+    match error {
+        StoreError::Memory => RunFault::Memory,
+        StoreError::Present | StoreError::Fault => RunFault::Fault(pid),
+    }
+}
+
+// Waits until so many are counted, for at most so many turns, and says how many are left.
+fn wait_for<'a, K: Naming, R: Wait + Clock, G, O: Opener<R>>(
+    cluster: &Cluster<'a, K, R, G, O>,
+    worker: &mut Worker<'a, K>,
+    count: &AtomicU64,
+    wanted: u64,
+    turns: u64,
+) -> Result<u64, RunFault>
+    ensures same { worker.new.links ≡ worker.old.links }
+    ensures left { IfOk result (λ left. left ≤ turns) }
+    ensures fault { IfErr result (IsFaultBy worker.old.links.own) }
+{
+    let mut left = turns;
+    while left > 0 {
+        if count.load(SeqCst) >= wanted {
+            return Ok(left);
+        }
+        if cluster.stop.load(SeqCst) {
+            break;
+        }
+        left -= 1;
+        worker.doze(cluster.rt);
+        left = left.saturating_sub(worker.extra());
+    }
+    Err(RunFault::Turns(worker.pid()))
+}
+
+// Opens the store of a process.
+fn opened<'a, K: Naming, R: Wait + Clock, G, O: Opener<R>>(
+    cluster: &Cluster<'a, K, R, G, O>,
+    worker: &mut Worker<'a, K>,
+) -> Result<O::Store, RunFault>
+    ensures same { worker.new.links ≡ worker.old.links }
+    ensures fault { IfErr result (IsFaultBy worker.old.links.own) }
+{
+    let pid = worker.pid();
+    match cluster.opener.make(cluster.rt, cluster.alloc, pid) {
+        Ok(store) => {
+            cluster.census.open();
+            worker.wake_all();
+            Ok(store)
+        }
+        Err(fault) => Err(open_fault(fault, pid)),
+    }
+}
+
+// Looks at the store of a process, and counts what was found.
+fn looked_at<'a, K: Naming, R: Wait + Clock, G, O: Opener<R>>(
+    cluster: &Cluster<'a, K, R, G, O>,
+    worker: &mut Worker<'a, K>,
+    image: &'a Image,
+    store: &mut O::Store,
+) -> Result<Found, RunFault>
+    requires { K.cell.n ≤ MAX_PROCESSES }
+    ensures same { worker.new.links ≡ worker.old.links }
+    ensures fault { IfErr result (IsFaultBy worker.old.links.own) }
+{
+    let (pid, n) = (worker.pid(), worker.n());
+    match find(cluster.alloc, store, pid, n, image) {
+        Ok(found) => {
+            cluster.census.look(&found);
+            worker.wake_all();
+            Ok(found)
+        }
+        Err(fault) => Err(found_fault(fault, pid)),
+    }
+}
+
+// Puts into a store what it is of.
+fn put_about<S: Ledger>(
+    alloc: Global,
+    store: &mut S,
+    image: &Image,
+    pid: Pid,
+    n: usize,
+) -> Result<(), RunFault>
+    requires { n ≤ MAX_PROCESSES }
+    ensures { IfErr result (IsFaultBy pid) }
+{
+    let Ok(recs) = about_recs(alloc, image, pid, n) else {
+        return Err(RunFault::Memory);
+    };
+    match store.put_in(alloc, LedgerTable::About, 0, &recs) {
+        Ok(()) => Ok(()),
+        Err(error) => Err(put_fault(error, pid)),
+    }
+}
+
+// The one record of what a store is of.
+fn about_recs(alloc: Global, image: &Image, pid: Pid, n: usize) -> Result<Vec<Vec<u8>>, AllocError>
+    requires { n ≤ MAX_PROCESSES }
+    ensures { IfOk result (λ recs. length recs.items ≡ 1) }
+{
+    let mut recs = Vec::new(alloc);
+    recs.push(about_of(alloc, pid, n, image)?)?;
+    Ok(recs)
+}
+
+// Makes what a store does not have of a start: what it is of, and the checkpoint of interval 0.
+fn make_missing<S: Ledger>(
+    alloc: Global,
+    store: &mut S,
+    found: &Found,
+    image: &Image,
+    pid: Pid,
+    n: usize,
+) -> Result<(), RunFault>
+    requires { n ≤ MAX_PROCESSES }
+    ensures { IfErr result (IsFaultBy pid) }
+{
+    if !found.has_about {
+        put_about(alloc, store, image, pid, n)?;
+    }
+    if found.is_begun() {
+        return Ok(());
+    }
+    match ProcCore::start(alloc, &image.bytes, image.size, image.ext, pid, n, store) {
+        Ok(core) => {
+            core.fail();
+            Ok(())
+        }
+        Err(fault) => Err(load_fault(fault, pid)),
+    }
+}
+
+// A process that is down over what an earlier run left of it, or over a start, and how many turns are left. The manager was told
+// of what its store holds; that it failed is still to be told.
+pub(crate) fn take_up<'a, K: Naming, J: Series, R: Wait + Clock, G, O: Opener<R>>(
+    cluster: &Cluster<'a, K, R, G, O>,
+    worker: &mut Worker<'a, K>,
+    image: &'a Image,
+    line: Option<FlightChannel<J, O::Store>>,
+) -> Result<(DownNode<'a, J, O::Store>, u64), RunFault>
+    requires few { K.cell.n ≤ MAX_PROCESSES }
+    requires unsure { AreNeverClean O.Store.is_clean }
+    requires clean { K.OverClean → AreAlwaysClean O.Store.is_clean }
+    ensures same { worker.new.links ≡ worker.old.links }
+    ensures member { IfOk result (λ made. made.0 ≡ record { program = program_of image.entry.now; own = worker.old.links.own; n = K.cell.n }) }
+    ensures left { IfOk result (λ made. made.1 ≤ cluster.now.plan.now.turns) }
+    ensures fault { IfErr result (IsFaultBy worker.old.links.own) }
+{
+    let (pid, n, alloc) = (worker.pid(), worker.n(), cluster.alloc);
+    let census = cluster.census;
+    let before = pid.index().min(1) as u64;
+    let left = wait_for(cluster, worker, &census.opened, before, cluster.plan.turns)?;
+    let mut store = opened(cluster, worker)?;
+    let found = looked_at(cluster, worker, image, &mut store)?;
+    let left = wait_for(cluster, worker, &census.looked, n as u64, left)?;
+    if census.misses(&found) {
+        return Err(RunFault::StoreMissing(pid));
+    }
+    make_missing(alloc, &mut store, &found, image, pid, n)?;
+    worker.arrive(0);
+    if let Err(fault) = worker.take_up(cluster.rt, alloc, found) {
+        return Err(run_fault(fault, pid));
+    }
+    match DownNode::over(alloc, image, pid, n, store, line) {
+        Ok(down_node) => Ok((down_node, left)),
+        Err(_) => Err(RunFault::Memory),
+    }
+}

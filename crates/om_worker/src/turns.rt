@@ -1,0 +1,177 @@
+//! The turns of a worker, to its process's end.
+
+ghost use Rattle.std.specs.Prelude.{◌≡◌, ◌<◌, ◌≤◌, All, false, IfErr, IfOk, IsTrue, OnOk, Some, length, slice_get};
+ghost use Rattle.om_node.specs.Ends.{IsWholeRun};
+ghost use Rattle.om_process.specs.Core.{IsEnd};
+ghost use Rattle.om_worker.specs.Ends.{IsEndOf};
+ghost use Rattle.om_report.specs.Faults.{IsFaultBy};
+ghost use Rattle.om_worker.specs.steps.Turning.{IsTurned};
+ghost use Rattle.om_node.specs.Nodes.{AreAlwaysClean};
+ghost use Rattle.om_worker_parts.specs.Places.{IsLanded, member_of};
+
+use crate::finished::Finished;
+use crate::worker::Worker;
+use om_board::{Naming, Pass};
+use om_node::Node;
+use om_process::Status;
+use om_report::{Harvest, RunFault};
+use om_stable::{Ledger, Stable};
+use om_tickets::Series;
+use om_worker_parts::{WorkerState, run_fault};
+use std::alloc::Global;
+use std::sync::Wait;
+use std::sync::atomic::AtomicBool;
+use std::sync::atomic::Ordering::SeqCst;
+use std::time::Clock;
+
+// What a turn of a worker leads to.
+#[derive(Drop)]
+pub(crate) enum AfterTurn<'a, K: Naming, J: Series, S: Stable> {
+    // There are more.
+    On(WorkerState<'a, J, S>, Pass<K>),
+    // All processes are quiet: how this one ended, its outputs, and its store.
+    Over(Status, Harvest<K>, S),
+}
+
+// The end of a process of which as many outputs are released as it made. Until they are it goes on.
+#[inline(never)]
+fn leave<'a, K: Naming, J: Series, S: Stable, R: Wait>(
+    rt: &R,
+    alloc: Global,
+    worker: &mut Worker<'a, K>,
+    node: Node<'a, J, S>,
+    pass: Pass<K>,
+) -> Result<AfterTurn<'a, K, J, S>, RunFault>
+    requires own { node.member.own ≡ worker.old.links.own }
+    requires landed { node.away ≡ false }
+    ensures same { worker.new.links ≡ worker.old.links }
+    ensures turned { IfOk result (λ t. IsTurned S.is_clean node.entry.member t) }
+    ensures fault { IfErr result (IsFaultBy worker.old.links.own) }
+{
+    let harvest = match worker.harvest(rt, alloc, node.core().made()) {
+        Ok(Some(harvest)) => harvest,
+        Ok(None) => return Ok(AfterTurn::On(WorkerState::Up(node), pass)),
+        Err(worker_fault) => {
+            drop(node);
+            return Err(run_fault(worker_fault, worker.pid()));
+        }
+    };
+    worker.end(node.core().machine().count());
+    match node.end() {
+        Ok((status, store)) => Ok(AfterTurn::Over(status, harvest, store)),
+        Err(node) => Ok(AfterTurn::On(WorkerState::Up(node), pass)),
+    }
+}
+
+// One turn of a worker.
+#[inline(never)]
+fn take_turn<'a, K: Naming, J: Series, S: Ledger, R: Wait + Clock>(
+    rt: &R,
+    alloc: Global,
+    worker: &mut Worker<'a, K>,
+    place: WorkerState<'a, J, S>,
+    pass: Pass<K>,
+) -> Result<AfterTurn<'a, K, J, S>, RunFault>
+    requires own { (member_of place).own ≡ worker.old.links.own }
+    requires program { slice_get K.programs (member_of place).own ≡ Some (member_of place).program }
+    requires size { (member_of place).n ≡ K.cell.n }
+    requires clean { K.OverClean → AreAlwaysClean S.is_clean }
+    requires landed { IsLanded place }
+    ensures same { worker.new.links ≡ worker.old.links }
+    ensures turned { IfOk result (λ t. IsTurned S.is_clean (member_of place.entry) t) }
+    ensures fault { IfErr result (IsFaultBy worker.old.links.own) }
+{
+    let (place, pass) = match worker.shown_turn(rt, alloc, place, pass) {
+        Ok(turned) => turned,
+        Err(worker_fault) => return Err(run_fault(worker_fault, worker.pid())),
+    };
+    match place {
+        WorkerState::AllQuiet(node) => leave(rt, alloc, worker, node, pass),
+        place => Ok(AfterTurn::On(place, pass)),
+    }
+}
+
+// The turns of a worker until all are quiet: how its process ended, its outputs, and its store.
+fn turns_until_over<'a, K: Naming, J: Series, S: Ledger, R: Wait + Clock>(
+    rt: &R,
+    alloc: Global,
+    turns: u64,
+    stop: &AtomicBool,
+    worker: &mut Worker<'a, K>,
+    place: WorkerState<'a, J, S>,
+    pass: Pass<K>,
+) -> Result<(Status, Harvest<K>, S), RunFault>
+    requires own { (member_of place).own ≡ worker.old.links.own }
+    requires program { slice_get K.programs (member_of place).own ≡ Some (member_of place).program }
+    requires size { (member_of place).n ≡ K.cell.n }
+    requires clean { K.OverClean → AreAlwaysClean S.is_clean }
+    requires landed { IsLanded place }
+    ensures same { worker.new.links ≡ worker.old.links }
+    ensures ended { IfOk result (λ end. IsEnd end.0) }
+    ensures own { let m = member_of place.entry in IfOk result (λ end. end.1.own ≡ m.own) }
+    ensures whole { let m = member_of place.entry in IfOk result (λ end. IsTrue (S.is_clean end.2)
+        → IsWholeRun m.program m.own m.n end.0 (length end.1.outputs.items)) }
+    ensures given { OnOk result (1 ≤ turns) }
+    ensures fault { IfErr result (IsFaultBy worker.old.links.own) }
+{
+    let mut pass = pass;
+    let mut place = place;
+    let mut left = turns;
+    while left > 0 {
+        left -= 1;
+        if stop.load(SeqCst) {
+            break;
+        }
+        match take_turn(rt, alloc, worker, place, pass)? {
+            AfterTurn::On(next, met) => {
+                left = left.saturating_sub(worker.extra());
+                place = next;
+                pass = met;
+            }
+            AfterTurn::Over(status, harvest, store) => return Ok((status, harvest, store)),
+        }
+    }
+    // Dropped by a call: at the end of the scope each part of each place would be dropped in turn.
+    drop(place);
+    Err(RunFault::Turns(worker.pid()))
+}
+
+// The same, with the ends that the worker gives up then.
+pub(crate) fn take_turns<'a, K: Naming, J: Series, S: Ledger, R: Wait + Clock>(
+    rt: &R,
+    alloc: Global,
+    turns: u64,
+    stop: &AtomicBool,
+    worker: Worker<'a, K>,
+    place: WorkerState<'a, J, S>,
+    pass: Pass<K>,
+) -> Result<Finished<K, S>, RunFault>
+    requires own { (member_of place).own ≡ worker.links.own }
+    requires program { slice_get K.programs (member_of place).own ≡ Some (member_of place).program }
+    requires size { (member_of place).n ≡ K.cell.n }
+    requires clean { K.OverClean → AreAlwaysClean S.is_clean }
+    requires landed { IsLanded place }
+    ensures end { let m = member_of place.entry in
+        IfOk result (λ f. IsEndOf S.is_clean m.program worker.entry.links.lines m.own m.n f) }
+    ensures given { OnOk result (1 ≤ turns) }
+    ensures fault { IfErr result (IsFaultBy worker.entry.links.own) }
+{
+    let mut worker = worker;
+    let (status, harvest, store) = turns_until_over(
+        rt,
+        alloc,
+        turns,
+        stop,
+        &mut worker,
+        place,
+        pass,
+    )?;
+    let (ends, witness) = worker.into_ends();
+    Ok(Finished {
+        status,
+        harvest,
+        store,
+        ends,
+        witness,
+    })
+}

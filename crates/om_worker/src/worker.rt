@@ -1,0 +1,572 @@
+//! What the thread of a process does.
+
+ghost use Rattle.std.specs.Prelude.{◌≡◌, ◌<◌, ◌+◌, ◌⊎◌, [], false, IfNone, IfOk, IfSome, None, Ok, OnOk, Some, length, slice_get, true};
+ghost use Rattle.om_member.specs.Handed.{outputs_from};
+ghost use Rattle.om_process.specs.Core.{IsEnd};
+ghost use Rattle.om_format.specs.declared.message.Message.{Message};
+ghost use Rattle.om_worker_parts.specs.Acts.{HasReleasedAnother};
+ghost use Rattle.om_report.specs.Locks.{UnderLock};
+ghost use Rattle.om_node.specs.Nodes.{AreAlwaysClean};
+ghost use Rattle.om_worker_parts.specs.Places.{IsLanded, member_of, IsLandedAt};
+ghost use Rattle.om_worker.specs.steps.Turning.{HasNothingToSay, HasReported, HasRun, IsOffered, IsTurnOf};
+ghost use Rattle.om_worker_parts.specs.Wiring.{HasEnds};
+
+mod resting;
+mod rounds;
+mod storing;
+
+use crate::links::{Links, Taken};
+use om_board::{Naming, Pass, Shared};
+use om_interval::Pid;
+use om_node::{Due, Kept, Node, WorkerFault, has_ended};
+use om_observers::{Diary, Observers, Past, Sight, Watch};
+use om_process::{Accept, PendingRow, Status, Witness};
+use om_report::Harvest;
+use om_restart::Found;
+use om_stable::{Ledger, Stable};
+use om_tickets::Series;
+use om_worker_parts::{
+    Barrier, Config, Ends, Idle, ManagerLink, ManagerPhase, Pause, SpinPolicy, TurnOutcome,
+    WorkerState,
+};
+use std::alloc::Global;
+use std::sync::Wait;
+use std::time::Clock;
+
+// What is left of a worker's turns where all wait, whatever it is.
+const ALL_TURNS: u64 = u64::MAX;
+
+// How many receipts of a log are stored where all are.
+const ALL_RECEIPTS: usize = usize::MAX;
+
+// A worker, but for its process. At a `WorkerFault` the process is dropped by a call, since at the end of a scope each of its parts
+// would be, which the prover goes through one by one.
+#[derive(Drop)]
+pub(crate) struct Worker<'a, K: Naming> {
+    plan: &'a Config,
+    manager_link: ManagerLink<'a, K>,
+    links: Links<'a>,
+    barrier: Barrier<'a>,
+    // The intervals at which the process is still to fail.
+    kills: Vec<u32>,
+    past: Past,
+    // How much of that stands in the store, where a run may take it up.
+    kept: Option<Kept>,
+    // What the store is to be given and to drop with what is stored next.
+    due: Option<Due>,
+    // How far the process has handed over what it received.
+    handed: Handed,
+    // Whether a flight is under way.
+    is_away: bool,
+    diary: Diary<'a>,
+    // Who sees what the process does.
+    watch: Option<&'a Watch>,
+    idle: Idle,
+    patience: SpinPolicy,
+    // Whether all that the process keeps was resent, after some idle turns, since it ran, received or refused a message.
+    resent: bool,
+    // How many turns the last one counts as beside itself.
+    extra: u64,
+    ghost linked: { links.own ≡ manager_link.pid },
+    ghost many: { links.n ≡ K.cell.n },
+}
+
+// How far a process whose store is slow has handed over what it received, and its checkpoints.
+#[derive(Clone, Copy, Drop)]
+struct Handed {
+    // The last interval whose receipt was handed over, or stored otherwise.
+    receipts: u32,
+    // The interval of the last checkpoint.
+    checkpoint: u32,
+}
+
+impl Handed {
+    // Of a process at its start, whose checkpoint is stored.
+    fn new() -> Handed {
+        Handed {
+            receipts: 0,
+            checkpoint: 0,
+        }
+    }
+
+    // The process was rolled back to interval r.
+    fn cut(&mut self, r: u32) {
+        self.receipts = r;
+        self.checkpoint = self.checkpoint.min(r);
+    }
+}
+
+// The interval of the last checkpoint among these rows, 0 where there is none.
+fn last_checkpoint(rows: &[PendingRow]) -> u32 {
+    let mut last = 0;
+    for row in rows {
+        if row.ckpt {
+            last = last.max(row.x);
+        }
+    }
+    last
+}
+
+impl<'a, K: Naming> Worker<'a, K> {
+    pub(crate) fn new(
+        plan: &'a Config,
+        shared: &'a Shared<K>,
+        links: Links<'a>,
+        barrier: Barrier<'a>,
+        kills: Vec<u32>,
+        alloc: Global,
+        observers: Observers<'a>,
+    ) -> Worker<'a, K>
+        requires { links.n ≡ K.cell.n }
+        ensures { result.links ≡ links.entry }
+    {
+        let own = links.own();
+        Worker {
+            plan,
+            manager_link: ManagerLink::new(own, shared),
+            links,
+            barrier,
+            kills,
+            past: Past::new(alloc, observers.keeps_witness),
+            kept: None,
+            due: None,
+            handed: Handed::new(),
+            is_away: false,
+            diary: Diary::new(alloc, own, observers),
+            watch: observers.watch,
+            idle: Idle::new(),
+            patience: SpinPolicy::new(),
+            resent: false,
+            extra: 0,
+        }
+    }
+
+    // The process.
+    pub(crate) fn pid(&self) -> Pid
+        ensures { result ≡ self.now.links.own }
+    {
+        self.manager_link.pid
+    }
+
+    // The number of processes.
+    pub(crate) fn n(&self) -> usize
+        ensures { result ≡ K.cell.n }
+    {
+        self.links.n()
+    }
+
+    // Wakes the workers of all processes.
+    pub(crate) fn wake_all(&self) {
+        self.links.wake_all();
+    }
+
+    // Goes on from what was found in the store of the process, once the manager is told of it.
+    pub(crate) fn take_up<R: Wait>(
+        &mut self,
+        rt: &R,
+        alloc: Global,
+        found: Found,
+    ) -> Result<(), WorkerFault>
+        requires { K.OverClean → ⊥ }
+        ensures same { self.new.links ≡ self.old.links }
+        ensures past { OnOk result (self.new.past ≡ record { keeps = true; senders = found.senders.items; count = 0 }) }
+        ensures kept { OnOk result (self.new.kept ≡ Some (record { outputs = length found.outputs.items; senders = found.kept })) }
+    {
+        self.manager_link
+            .take_up(rt, alloc, &found.rows, &found.outputs)?;
+        self.kept = Some(Kept {
+            outputs: found.outputs.len() as u64,
+            senders: found.kept,
+        });
+        self.handed.checkpoint = last_checkpoint(&found.rows);
+        self.past = Past::taken_up(found.senders);
+        Ok(())
+    }
+
+    // Returns how many turns the last one counts as beside itself.
+    pub(crate) fn extra(&self) -> u64
+        ensures { result ≡ self.now.extra }
+    {
+        self.extra
+    }
+
+    // The process came up in this round, which it tells last of all: who was the last wakes the others.
+    pub(crate) fn arrive(&mut self, round: u32)
+        ensures { self.new.links ≡ self.old.links }
+    {
+        if self.barrier.arrive(round) {
+            self.links.wake_all();
+        }
+    }
+
+    // Returns whether the process, which is up, waits for others to come up. A turn in which it does is one in which nothing
+    // happens.
+    fn waits_for_others<R: Wait + Clock>(&mut self, rt: &R) -> bool
+        ensures { self.new.links ≡ self.old.links }
+    {
+        if self.barrier.is_passed() {
+            return false;
+        }
+        if self.barrier.pass() {
+            self.idle.end();
+            return false;
+        }
+        self.doze(rt);
+        true
+    }
+
+    // Gives the passes of the process up, when it has ended, and what it did.
+    pub(crate) fn into_ends(self) -> (Ends, Witness)
+        ensures { let l = self.entry.links in HasEnds K.cell.n l.lines l.own result.0 }
+    {
+        let Worker { links, past, .. } = self;
+        (links.into_ends(), past.into_witness())
+    }
+
+    // The outputs of the process, where as many are released as it made.
+    pub(crate) fn harvest<R: Wait>(
+        &self,
+        rt: &R,
+        alloc: Global,
+        made: u64,
+    ) -> Result<Option<Harvest<K>>, WorkerFault>
+        ensures own { IfOk result (λ r. IfSome r (λ h. h.own ≡ self.now.links.own)) }
+        ensures many { IfOk result (λ r. IfSome r (λ h. length h.outputs.items ≡ made)) }
+        ensures none { IfOk result (λ r. IfNone r (UnderLock K.cell.n (λ before after.
+            HasReleasedAnother before.manager self.now.manager_link.pid made × (after ≡ before)))) }
+    {
+        self.manager_link.harvest(rt, alloc, made)
+    }
+
+    // The process has ended, with so many instructions.
+    pub(crate) fn end(&mut self, count: u64)
+        ensures { self.new.links ≡ self.old.links }
+    {
+        self.past.end(count);
+    }
+
+    // One turn. Nothing that moves the process is inlined, here and below: a process over a large store is moved a field at a
+    // time where several moves stand in one function, which then takes the compiler minutes.
+    #[inline(never)]
+    fn turn<J: Series, S: Ledger, R: Wait + Clock>(
+        &mut self,
+        rt: &R,
+        alloc: Global,
+        place: WorkerState<'a, J, S>,
+        pass: Pass<K>,
+    ) -> Result<(WorkerState<'a, J, S>, Pass<K>), WorkerFault>
+        requires own { (member_of place).own ≡ self.old.links.own }
+        requires program { slice_get K.programs (member_of place).own ≡ Some (member_of place).program }
+        requires size { (member_of place).n ≡ K.cell.n }
+        requires clean { K.OverClean → AreAlwaysClean S.is_clean }
+        requires landed { IsLanded place }
+        ensures same { self.new.links ≡ self.old.links }
+        ensures place { IfOk result (λ r. member_of r.0 ≡ member_of place.entry) }
+        ensures landed { IfOk result (λ r. IsLanded r.0) }
+        ensures turned { IfOk result (λ r. IsTurnOf K.cell.n self.old.manager_link.round place.entry r.0) }
+    {
+        self.extra = 0;
+        match place {
+            WorkerState::Up(node) => self.go_on(rt, alloc, node, pass),
+            WorkerState::MustJoin(node) => self.join(rt, alloc, node, pass),
+            WorkerState::Joined(node) => self.wait_in(rt, alloc, node, pass),
+            WorkerState::Failed(down_node) => self.declare(rt, alloc, down_node, pass),
+            WorkerState::Down(down_node) => self.wait_down(rt, alloc, down_node, pass),
+            WorkerState::AllQuiet(node) => Ok((WorkerState::AllQuiet(node), pass)),
+        }
+    }
+
+    // One turn, at whose end whoever watches sees what the process does.
+    #[inline(never)]
+    pub(crate) fn shown_turn<J: Series, S: Ledger, R: Wait + Clock>(
+        &mut self,
+        rt: &R,
+        alloc: Global,
+        place: WorkerState<'a, J, S>,
+        pass: Pass<K>,
+    ) -> Result<(WorkerState<'a, J, S>, Pass<K>), WorkerFault>
+        requires own { (member_of place).own ≡ self.old.links.own }
+        requires program { slice_get K.programs (member_of place).own ≡ Some (member_of place).program }
+        requires size { (member_of place).n ≡ K.cell.n }
+        requires clean { K.OverClean → AreAlwaysClean S.is_clean }
+        requires landed { IsLanded place }
+        ensures same { self.new.links ≡ self.old.links }
+        ensures place { IfOk result (λ r. member_of r.0 ≡ member_of place.entry) }
+        ensures landed { IfOk result (λ r. IsLanded r.0) }
+    {
+        if self.watch.is_none() {
+            return self.turn(rt, alloc, place, pass);
+        }
+        let mut turned = self.turn(rt, alloc, place, pass)?;
+        self.show(rt, &mut turned);
+        Ok(turned)
+    }
+
+    // Shows whoever watches what the process does where it stands.
+    #[inline(never)]
+    fn show<J: Series, S: Stable, R: Wait>(
+        &self,
+        rt: &R,
+        turned: &mut (WorkerState<'a, J, S>, Pass<K>),
+    )
+        ensures { turned.new.0 ≡ turned.old.0 }
+    {
+        let Some(watch) = self.watch else {
+            return;
+        };
+        let pid = self.manager_link.pid;
+        let before = watch.sight(rt, pid).unwrap_or(Sight::new());
+        let seen = turned.0.sight(before);
+        let sight = Sight {
+            refused: self.diary.refused(),
+            put: self.links.put(),
+            taken: self.links.taken(),
+            front: Some(self.manager_link.read(rt, &mut turned.1)),
+            ..seen
+        };
+        watch.show(rt, pid, sight);
+    }
+
+    // A turn of a process that is up: it runs, where all are.
+    #[inline(never)]
+    fn go_on<J: Series, S: Ledger, R: Wait + Clock>(
+        &mut self,
+        rt: &R,
+        alloc: Global,
+        node: Node<'a, J, S>,
+        pass: Pass<K>,
+    ) -> Result<(WorkerState<'a, J, S>, Pass<K>), WorkerFault>
+        requires own { node.member.own ≡ self.old.links.own }
+        requires program { slice_get K.programs node.member.own ≡ Some node.member.program }
+        requires size { node.member.n ≡ K.cell.n }
+        requires clean { K.OverClean → AreAlwaysClean S.is_clean }
+        ensures same { self.new.links ≡ self.old.links }
+        ensures place { IfOk result (λ r. member_of r.0 ≡ node.entry.member) }
+        ensures landed { IfOk result (λ r. IsLanded r.0) }
+    {
+        if self.waits_for_others(rt) {
+            return Ok((WorkerState::Up(node), pass));
+        }
+        let mut node = node;
+        match self.step(rt, alloc, &mut node) {
+            Ok(step) => Ok((step.place_of(node), pass)),
+            Err(worker_fault) => {
+                drop(node);
+                Err(worker_fault)
+            }
+        }
+    }
+
+    // A turn of a process that is up and goes on, or leaves: then its store is here.
+    #[inline(never)]
+    fn step<J: Series, S: Ledger, R: Wait + Clock>(
+        &mut self,
+        rt: &R,
+        alloc: Global,
+        node: &mut Node<'a, J, S>,
+    ) -> Result<TurnOutcome, WorkerFault>
+        requires own { node.old.member.own ≡ self.old.links.own }
+        requires program { slice_get K.programs node.old.member.own ≡ Some node.old.member.program }
+        requires size { node.old.member.n ≡ K.cell.n }
+        requires clean { K.OverClean → AreAlwaysClean S.is_clean }
+        ensures same { self.new.links ≡ self.old.links }
+        ensures member { node.new.member ≡ node.old.member }
+        ensures landed { IfOk result (λ step. IsLandedAt step node.new) }
+    {
+        self.look(rt, node)?;
+        match self.advance(rt, alloc, node)? {
+            TurnOutcome::Up => Ok(TurnOutcome::Up),
+            step => {
+                self.recall(rt, node)?;
+                Ok(step)
+            }
+        }
+    }
+
+    // Runs the process, hands in what it has, and takes a message where it waits for one.
+    #[inline(never)]
+    fn advance<J: Series, S: Ledger, R: Wait + Clock>(
+        &mut self,
+        rt: &R,
+        alloc: Global,
+        node: &mut Node<'a, J, S>,
+    ) -> Result<TurnOutcome, WorkerFault>
+        requires own { node.old.member.own ≡ self.old.links.own }
+        requires program { slice_get K.programs node.old.member.own ≡ Some node.old.member.program }
+        requires size { node.old.member.n ≡ K.cell.n }
+        requires clean { K.OverClean → AreAlwaysClean S.is_clean }
+        ensures same { self.new.links ≡ self.old.links }
+        ensures member { node.new.member ≡ node.old.member }
+    {
+        let status = self.run(rt, alloc, node)?;
+        let called = self.manager_link.is_called(self.manager_link.failures());
+        let standing = self.report(rt, alloc, node, status, called)?;
+        match standing {
+            ManagerPhase::Closed => {
+                if !has_ended(status) {
+                    self.launch(rt, alloc, node)?;
+                }
+                self.receive(rt, alloc, node, status)
+            }
+            ManagerPhase::Gathers => Ok(TurnOutcome::MustJoin),
+            ManagerPhase::Quiet => {
+                self.links.wake_all();
+                Ok(TurnOutcome::AllQuiet)
+            }
+        }
+    }
+
+    // Runs the process, and puts what it sends. One that has ended stores all that it received.
+    fn run<J: Series, S: Stable, R: Wait>(
+        &mut self,
+        rt: &R,
+        alloc: Global,
+        node: &mut Node<'a, J, S>,
+    ) -> Result<Status, WorkerFault>
+        requires own { node.old.member.own ≡ self.old.links.own }
+        requires size { node.old.member.n ≡ K.cell.n }
+        ensures same { self.new.links ≡ self.old.links }
+        ensures member { node.new.member ≡ node.old.member }
+        ensures ran { IfOk result (λ status. HasRun node.old.core self.old.plan.now.fuel status node.new.core.now) }
+        ensures stored { IfOk result (λ status. IsEnd status → node.new.core.log ≡ []) }
+        ensures landed { IfOk result (λ status. IsEnd status → node.new.away ≡ false) }
+    {
+        if self.diary.is_kept() && !node.core().pending().is_empty() {
+            // Of a run that is recorded what a process stores is noted before it runs on, so that both are one event.
+            return Ok(Status::Ready);
+        }
+        let ran = node.run(alloc, self.plan.fuel)?;
+        self.diary.ran(rt, node.core(), ran)?;
+        if ran.steps > 0 {
+            self.change();
+        }
+        if ran.steps > 0 || self.links.is_behind() {
+            self.links.put_all(rt, alloc, node.core())?;
+        }
+        if has_ended(ran.status) {
+            self.recall(rt, node)?;
+            node.flush(alloc)?;
+            self.diary.stored_all();
+            self.handed.receipts = node.core().interval();
+        }
+        Ok(ran.status)
+    }
+
+    // Hands in what the process has, where there is something to hand in or to learn, and says how the manager stands.
+    fn report<J: Series, S: Ledger, R: Wait>(
+        &mut self,
+        rt: &R,
+        alloc: Global,
+        node: &mut Node<'a, J, S>,
+        status: Status,
+        called: bool,
+    ) -> Result<ManagerPhase, WorkerFault>
+        requires own { node.old.member.own ≡ self.old.links.own }
+        requires program { slice_get K.programs node.old.member.own ≡ Some node.old.member.program }
+        requires size { node.old.member.n ≡ K.cell.n }
+        requires clean { K.OverClean → AreAlwaysClean S.is_clean }
+        ensures same { self.new.links ≡ self.old.links }
+        ensures member { node.new.member ≡ node.old.member }
+        ensures reported { IfOk result (λ standing. HasNothingToSay self.old.manager_link.handed status node.old.core standing node.new.core
+            ⊎ HasReported K.cell.n self.old.manager_link.pid self.old.manager_link.round status node.old.core standing) }
+        ensures idle { let link = self.old.manager_link in (IsEnd status → ⊥) → called ≡ false → node.old.core.pending ≡ []
+            → outputs_from node.old.core link.handed ≡ []
+            → IfOk result (λ standing. HasNothingToSay link.handed status node.old.core standing node.new.core) }
+    {
+        let ended = has_ended(status);
+        if !self.manager_link.is_due(node.core(), ended, called) {
+            return Ok(ManagerPhase::Closed);
+        }
+        let is_patient = self.patience.is_patient();
+        let (standing, limits) = self
+            .manager_link
+            .meet(rt, alloc, node, ended, is_patient, &mut self.diary)?;
+        self.apply_limits(alloc, node, limits, ended)?;
+        Ok(standing)
+    }
+
+    // Takes a message, where the process waits for one. What comes to one that has ended is dropped: a round that rolls it back
+    // has all sent once more.
+    fn receive<J: Series, S: Ledger, R: Wait + Clock>(
+        &mut self,
+        rt: &R,
+        alloc: Global,
+        node: &mut Node<'a, J, S>,
+        status: Status,
+    ) -> Result<TurnOutcome, WorkerFault>
+        ensures same { self.new.links ≡ self.old.links }
+        ensures member { node.new.member ≡ node.old.member }
+        ensures offered { OnOk result ((node.new.core ≡ node.old.core)
+            ⊎ ((message : Message) × IsOffered node.old.core message node.new.core.now)) }
+    {
+        if status == Status::Waiting {
+            if let Some(taken) = self.take(rt) {
+                return self.accept(rt, alloc, node, &taken);
+            }
+        } else if status != Status::Ready {
+            if self.links.drain(rt) {
+                self.idle.interrupt();
+            } else {
+                self.rest(rt);
+            }
+        }
+        Ok(TurnOutcome::Up)
+    }
+
+    // Takes a message, or rests; what ends the rest is taken at once.
+    fn take<R: Wait + Clock>(&mut self, rt: &R) -> Option<Taken>
+        ensures same { self.new.links ≡ self.old.links }
+    {
+        let taken = self.links.take(rt);
+        if taken.is_some() {
+            return taken;
+        }
+        match self.rest(rt) {
+            Pause::Woken => self.links.take(rt),
+            Pause::Slept => None,
+        }
+    }
+
+    // Something happens to the process: it is idle no longer, and what it keeps is not all resent.
+    fn change(&mut self)
+        ensures same { self.new.links ≡ self.old.links }
+    {
+        self.idle.end();
+        self.resent = false;
+    }
+
+    // Offers a message to the process, as it was taken.
+    fn accept<J: Series, S: Ledger, R: Wait>(
+        &mut self,
+        rt: &R,
+        alloc: Global,
+        node: &mut Node<'a, J, S>,
+        taken: &Taken,
+    ) -> Result<TurnOutcome, WorkerFault>
+        ensures same { self.new.links ≡ self.old.links }
+        ensures member { node.new.member ≡ node.old.member }
+        ensures offered { OnOk result (IsOffered node.old.core taken.now.message node.new.core.now) }
+    {
+        let message = taken.message();
+        let answer = node.accept(alloc, message);
+        self.diary.gave(rt, message, answer)?;
+        match answer {
+            Accept::Taken(x) => {
+                self.past.receive(message.from)?;
+                self.links.tell_received(message);
+                self.change();
+                self.after_receipt(rt, alloc, node, x)
+            }
+            Accept::Memory => Err(WorkerFault::Memory),
+            Accept::Repeat => {
+                self.idle.interrupt();
+                Ok(TurnOutcome::Up)
+            }
+            _ => {
+                self.change();
+                self.manager_link.refuse(rt);
+                Ok(TurnOutcome::Up)
+            }
+        }
+    }
+}

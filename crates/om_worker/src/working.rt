@@ -1,0 +1,251 @@
+//! What the thread of a process does, from the gate to the end.
+
+ghost use Rattle.std.specs.Prelude.{◌≡◌, ◌<◌, ◌≤◌, ◌==◌, filter, IfErr, IfOk, OnOk, Some, map, slice_get};
+ghost use Rattle.om_process.specs.Images.{program_of};
+ghost use Rattle.om_process.specs.declared.image.Image.{Image};
+ghost use Rattle.om_report.specs.declared.fault.RunFault.TheVariants.{Memory};
+ghost use Rattle.om_node.specs.Stores.{AreNeverClean};
+ghost use Rattle.om_worker.specs.Ends.{IsEndOf, IsOwnEnd};
+ghost use Rattle.om_report.specs.Faults.{IsFaultBy};
+ghost use Rattle.om_node.specs.Nodes.{AreAlwaysClean};
+
+use crate::finished::Finished;
+use crate::ground::{Cluster, stop_all};
+use crate::links::Links;
+use crate::taking_up::{open_fault, take_up};
+use crate::turns::take_turns;
+use crate::worker::Worker;
+use om_board::{Naming, Pass};
+use om_interval::Pid;
+use om_node::{FlightChannel, Node};
+use om_process::Image;
+use om_report::RunFault;
+use om_stable::Stable;
+use om_tickets::Series;
+use om_worker_parts::{Barrier, Gate, Opener, WorkerState, load_fault};
+use std::alloc::{AllocError, Global};
+use std::sync::Wait;
+use std::thread;
+use std::time::Clock;
+
+/// Holds what a worker begins with.
+#[derive(Drop)]
+pub struct Job<'a, K: Naming, J: Series, S: Stable> {
+    /// The ends of its process.
+    pub links: Links<'a>,
+    /// What it has seen of the fronts.
+    pub pass: Pass<K>,
+    /// Where stores are slow, the way to the thread that writes that of the process.
+    pub channel: Option<FlightChannel<J, S>>,
+    ghost sized: { links.n ≡ K.cell.n },
+}
+
+// Asks the gate until it lets the process start.
+fn pass_gate<G: Gate>(gate: &G, gate_turns: u64, pid: Pid) -> Result<(), RunFault>
+    ensures asked { OnOk result (1 ≤ gate_turns) }
+    ensures fault { IfErr result (IsFaultBy pid) }
+{
+    for _ in 0..gate_turns {
+        if gate.may_start(pid) {
+            return Ok(());
+        }
+        thread::yield_now();
+    }
+    Err(RunFault::GateShut(pid))
+}
+
+// Makes a process, over a store of its own.
+fn begin<'a, J: Series, R, O: Opener<R>>(
+    rt: &R,
+    alloc: Global,
+    opener: &O,
+    image: &'a Image,
+    pid: Pid,
+    n: usize,
+    channel: Option<FlightChannel<J, O::Store>>,
+) -> Result<Node<'a, J, O::Store>, RunFault>
+    ensures member { IfOk result (λ node. node.member ≡ record { program = program_of image.entry.now; own = pid; n = n }) }
+    ensures fault { IfErr result (IsFaultBy pid) }
+{
+    let store = match opener.make(rt, alloc, pid) {
+        Ok(store) => store,
+        Err(fault) => return Err(open_fault(fault, pid)),
+    };
+    match Node::start(alloc, image, pid, n, store, channel) {
+        Ok(node) => Ok(node),
+        Err(fault) => Err(load_fault(fault, pid)),
+    }
+}
+
+// A process that the gate let start, and the intervals at which it is to fail.
+fn admit<'a, K: Naming, J: Series, R: Wait, G: Gate, O: Opener<R>>(
+    cluster: &Cluster<'a, K, R, G, O>,
+    image: &'a Image,
+    pid: Pid,
+    n: usize,
+    channel: Option<FlightChannel<J, O::Store>>,
+) -> Result<(Node<'a, J, O::Store>, Vec<u32>), RunFault>
+    ensures member { IfOk result (λ made. made.0.member ≡ record { program = program_of image.entry.now; own = pid; n = n }) }
+    ensures asked { OnOk result (1 ≤ cluster.now.plan.now.gate_turns) }
+    ensures fault { IfErr result (IsFaultBy pid) }
+{
+    let Cluster {
+        rt,
+        alloc,
+        plan,
+        ..
+    } = *cluster;
+    pass_gate(cluster.gate, plan.gate_turns, pid)?;
+    let Ok(kills) = kills_of(alloc, &plan.kills, pid) else {
+        return Err(RunFault::Memory);
+    };
+    let node = begin(rt, alloc, cluster.opener, image, pid, n, channel)?;
+    Ok((node, kills))
+}
+
+// Does what the thread of a process does that starts over a store that holds nothing.
+fn work_anew<'a, K: Naming, J: Series, R: Wait + Clock, G: Gate, O: Opener<R>>(
+    cluster: &Cluster<'a, K, R, G, O>,
+    image: &'a Image,
+    job: Job<'a, K, J, O::Store>,
+) -> Result<Finished<K, O::Store>, RunFault>
+    requires program { slice_get K.programs job.links.own ≡ Some (program_of image.now) }
+    requires clean { K.OverClean → AreAlwaysClean O.Store.is_clean }
+    ensures end { let l = job.entry.links in
+        IfOk result (λ f. IsEndOf O.Store.is_clean (program_of image.entry.now) l.lines l.own l.n f) }
+    ensures own { IsOwnEnd cluster.now.plan.now job.entry.links.own result }
+{
+    let Job {
+        links,
+        pass,
+        channel,
+        ..
+    } = job;
+    let (node, kills) = admit(cluster, image, links.own(), links.n(), channel)?;
+    let Cluster {
+        rt,
+        alloc,
+        plan,
+        shared,
+        stop,
+        returns,
+        observers,
+        ..
+    } = *cluster;
+    let barrier = Barrier::new(returns, links.n());
+    let mut worker = Worker::new(plan, shared, links, barrier, kills, alloc, observers);
+    worker.arrive(node.core().round());
+    take_turns(
+        rt,
+        alloc,
+        plan.turns,
+        stop,
+        worker,
+        WorkerState::Up(node),
+        pass,
+    )
+}
+
+// Does what the thread of a process does that is taken up from what an earlier run left of it.
+fn work_on<'a, K: Naming, J: Series, R: Wait + Clock, G: Gate, O: Opener<R>>(
+    cluster: &Cluster<'a, K, R, G, O>,
+    image: &'a Image,
+    job: Job<'a, K, J, O::Store>,
+) -> Result<Finished<K, O::Store>, RunFault>
+    requires unsure { AreNeverClean O.Store.is_clean }
+    requires program { slice_get K.programs job.links.own ≡ Some (program_of image.now) }
+    requires clean { K.OverClean → AreAlwaysClean O.Store.is_clean }
+    ensures end { let l = job.entry.links in
+        IfOk result (λ f. IsEndOf O.Store.is_clean (program_of image.entry.now) l.lines l.own l.n f) }
+    ensures own { IsOwnEnd cluster.now.plan.now job.entry.links.own result }
+{
+    let Job {
+        links,
+        pass,
+        channel,
+        ..
+    } = job;
+    let (pid, n) = (links.own(), links.n());
+    let Cluster {
+        rt,
+        alloc,
+        plan,
+        stop,
+        ..
+    } = *cluster;
+    pass_gate(cluster.gate, plan.gate_turns, pid)?;
+    let Ok(kills) = kills_of(alloc, &plan.kills, pid) else {
+        return Err(RunFault::Memory);
+    };
+    let barrier = Barrier::new(cluster.returns, n);
+    let mut worker = Worker::new(
+        plan,
+        cluster.shared,
+        links,
+        barrier,
+        kills,
+        alloc,
+        cluster.observers,
+    );
+    let (down_node, left) = take_up(cluster, &mut worker, image, channel)?;
+    take_turns(
+        rt,
+        alloc,
+        left,
+        stop,
+        worker,
+        WorkerState::Failed(down_node),
+        pass,
+    )
+}
+
+// Does what the thread of a process does.
+fn work<'a, K: Naming, J: Series, R: Wait + Clock, G: Gate, O: Opener<R>>(
+    cluster: &Cluster<'a, K, R, G, O>,
+    image: &'a Image,
+    job: Job<'a, K, J, O::Store>,
+) -> Result<Finished<K, O::Store>, RunFault>
+    requires program { slice_get K.programs job.links.own ≡ Some (program_of image.now) }
+    requires clean { K.OverClean → AreAlwaysClean O.Store.is_clean }
+    ensures end { let l = job.entry.links in
+        IfOk result (λ f. IsEndOf O.Store.is_clean (program_of image.entry.now) l.lines l.own l.n f) }
+    ensures own { IsOwnEnd cluster.now.plan.now job.entry.links.own result }
+{
+    if cluster.opener.resumes() {
+        work_on(cluster, image, job)
+    } else {
+        work_anew(cluster, image, job)
+    }
+}
+
+/// Does what the thread of a process does. Where it ends with a fault, the others are stopped. Whoever follows is told of its end.
+/// Refused with the fault of the process, or where memory runs out.
+pub fn work_or_stop<'a, K: Naming, J: Series, R: Wait + Clock, G: Gate, O: Opener<R>>(
+    cluster: &Cluster<'a, K, R, G, O>,
+    image: &'a Image,
+    job: Job<'a, K, J, O::Store>,
+) -> Result<Finished<K, O::Store>, RunFault>
+    requires program { slice_get K.programs job.links.own ≡ Some (program_of image.now) }
+    requires clean { K.OverClean → AreAlwaysClean O.Store.is_clean }
+    ensures end { let l = job.entry.links in
+        IfOk result (λ f. IsEndOf O.Store.is_clean (program_of image.entry.now) l.lines l.own l.n f) }
+    ensures own { IsOwnEnd cluster.now.plan.now job.entry.links.own result }
+{
+    let result = work(cluster, image, job);
+    if result.is_err() {
+        stop_all(cluster);
+    }
+    cluster.observers.end();
+    result
+}
+
+// The intervals at which a process is to fail.
+fn kills_of(alloc: Global, kills: &[(Pid, u32)], pid: Pid) -> Result<Vec<u32>, AllocError>
+    ensures { IfOk result (λ own. own.items ≡ map (λ kill. kill.1) (filter (λ kill. kill.0 == pid) kills.now)) }
+{
+    kills
+        .iter()
+        .filter(|kill| kill.0 == pid)
+        .map(|kill| kill.1)
+        .collect(alloc)
+}

@@ -1,0 +1,6 @@
+pub mod Acts
+pub mod Network
+pub mod Places
+pub mod Sights
+pub mod Wiring
+pub mod steps

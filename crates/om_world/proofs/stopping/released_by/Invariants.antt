@@ -1,0 +1,6 @@
+use Rattle.std.proofs.Common.{◌≡◌, length}
+use Rattle.om_world.specs.steps.Stopping.{AreReleasedBy}
+use Rattle.om_world.proofs.stopping.released_by.Given as goal
+
+abbrev pub invariant-loop-p : goal.invariant-loop-p
+invariant-loop-p l = (length l.released.items ≡ l.p) × AreReleasedBy l.manager l.released.items

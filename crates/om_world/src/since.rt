@@ -1,0 +1,70 @@
+//! What is kept of the last finished round.
+
+ghost use Rattle.std.specs.Prelude.{◌≡◌, [], false};
+ghost use Rattle.om_world.specs.steps.Moves.{since_told};
+
+use crate::event::Refusal;
+use crate::receipts::Receipts;
+use crate::remembered::Remembered;
+use std::marker::Model;
+
+// What had been received before the last finished round cut it, or at the start nothing; and whether a process has stored since.
+#[derive(Drop)]
+pub(crate) struct Since {
+    pub(crate) before: Remembered,
+    pub(crate) stored: bool,
+}
+
+impl Model for Since {
+    ghost use Rattle.om_world.specs.World.{SinceState};
+
+    ghost Value = { SinceState };
+
+    ghost view = { λ s. record { before = s.before.entries; stored = s.stored } };
+}
+
+impl Since {
+    // Since the start.
+    pub(crate) fn new() -> Since
+        ensures { result ≡ record { before = []; stored = false } }
+    {
+        Since {
+            before: Remembered::none(),
+            stored: false,
+        }
+    }
+
+    // Since a round that cuts these entries.
+    pub(crate) fn at(before: Remembered) -> Since
+        ensures { result ≡ record { before = before.entries; stored = false } }
+    {
+        Since {
+            before,
+            stored: false,
+        }
+    }
+
+    // Whether a process has stored.
+    pub(crate) fn has_stored(&self) -> bool
+        ensures { result ≡ self.now.stored }
+    {
+        self.stored
+    }
+
+    // A store was called, and rows are pending behind it or not: where none is, it holds no more than before.
+    pub(crate) fn note_stored(&mut self, told: &Result<(), Refusal>, has_rows: bool)
+        ensures { self.new ≡ since_told has_rows told.now self.old }
+    {
+        if told.is_ok() && has_rows {
+            self.stored = true;
+        }
+    }
+
+    // A round finishes, and is about to cut this.
+    pub(crate) fn finish(&mut self, live: &Receipts)
+        ensures { self.new ≡ record { before = live.now.entries; stored = false } }
+    {
+        self.before = Remembered::all(live);
+        self.stored = false;
+    }
+}
