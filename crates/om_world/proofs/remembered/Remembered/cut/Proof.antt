@@ -1,4 +1,5 @@
-use Rattle.om_world.specs.steps.Remembered.{left_by}
+use Rattle.std.specs.Prelude.{slice_index}
+use Rattle.om_world.specs.Live.{cut_list}
 use mathlib.Core.Path.{refl}
 use mathlib.Core.List.{[], ◌∷◌}
 use seplogic.Ra.Ura.{Ura}
@@ -27,12 +28,12 @@ use denote.Triple.Entry.{on_entry, alive, Args}
 use denote.Triple.Spec.{Meets, triple_of}
 use denote.Triple.Table.{entered}
 use denote.Triple.Walked.{says, stay_none_ref, Stays, walk_of, Walks, ends_at, walked, Goes-none_ref, walk_Meets}
-use Rattle.om_world.specs.contracts.remembered.Remembered.after.Key.{name as key}
-use Rattle.om_world.specs.contracts.remembered.Remembered.after as f
-use Rattle.om_world.proofs.remembered.Remembered.after.Statement as stated
-use Rattle.om_world.proofs.remembered.Remembered.after.Code as code
+use Rattle.om_world.specs.contracts.remembered.Remembered.cut.Key.{name as key}
+use Rattle.om_world.specs.contracts.remembered.Remembered.cut as f
+use Rattle.om_world.proofs.remembered.Remembered.cut.Statement as stated
+use Rattle.om_world.proofs.remembered.Remembered.cut.Code as code
 use Rattle.om_world.specs.contracts.remembered.Remembered as trail
-use Rattle.om_world.specs.contracts.leave.Leave as name
+use Rattle.om_interval.specs.contracts.dep_vec.DepVec as name
 
 abbrev stayed : Stays (f.ended).signature.params (f.ended).kept
 stayed = (stay_none_ref (0 ∷ []) tt (plain (λ _. trail.the_row)) yes, (stay_none_ref (1 ∷ []) tt (plain (λ _. name.the_row)) yes, tt))
@@ -59,8 +60,8 @@ module _ {M : Type 1} {𝓤 : Ura M} (𝓛 : Logic 𝓤) (mem : Memory → SProp
         qed 𝓛 (raw (alive 𝓛 f.signature κs qs) ∷ ‵ passed ∷ []) ∵ enter ! C Λ code.function (before ∷ named_by ∷ []) _ $
         alloc_all ! (λ l. pass_all ! refl ((tt, tt), ((tt, tt), tt)) $ sets ! (agg ! (no_more !)) refl (tt, tt) $
         returns ! (look_at ! 0 refl) $ free_all ! refl $
-        suffices ! _ (ends_at 𝓛 f.ended stayed (f.clauses 𝓛 mem run) bound (vstruct vnil) (record { entries = left_by a.1.0.now a.0.now.entries }) (tt, (tt, tt)) (tt, (tt, tt))) $
-        says ! refl $ pure_i ! (trail.the_row.own_val (record { entries = left_by a.1.0.now a.0.now.entries }) (vstruct vnil ∷ [])) ((λ vss. (tt, tt)), tt) ((tt, (refl, tt)), tt) $
+        suffices ! _ (ends_at 𝓛 f.ended stayed (f.clauses 𝓛 mem run) bound (vstruct vnil) (record { entries = cut_list (λ p. slice_index a.1.0.now p) a.0.now.entries }) (tt, (tt, tt)) (tt, (tt, tt))) $
+        says ! refl $ pure_i ! (trail.the_row.own_val (record { entries = cut_list (λ p. slice_index a.1.0.now p) a.0.now.entries }) (vstruct vnil ∷ [])) ((λ vss. (tt, tt)), tt) ((tt, (refl, tt)), tt) $
         move ! (1 ∷ 2 ∷ 0 ∷ []) $ done !)
 
   walks : Walks 𝓛 f.ended stayed (WpFn 𝓤 H C Λ code.function) (f.clauses 𝓛 mem run)
@@ -75,9 +76,9 @@ meets {𝓤 = 𝓤} 𝓛 mem run 𝓣 =
     walk_Meets 𝓛 f.ended stayed (Goes-none_ref 𝓛 2 (0 ∷ []) tt (plain (λ _. trail.the_row)) yes, (Goes-none_ref 𝓛 2 (1 ∷ []) tt (plain (λ _. name.the_row)) yes, tt)) (f.clauses 𝓛 mem run) (WpFn 𝓤 𝓛.H 𝓣.C 𝓣.Λ code.function)
     (WpFn-mono 𝓤 𝓛.H 𝓛.laws 𝓣 code.function) (walks 𝓛 mem run 𝓣.C 𝓣.Λ)
 
-pub after_spec : {M : Type 1} → stated.statement M
+pub cut_spec : {M : Type 1} → stated.statement M
 unfolding tables_of
-after_spec 𝓤 𝓛 𝓜 𝓡 wired =
+cut_spec 𝓤 𝓛 𝓜 𝓡 wired =
     entered 𝓤 𝓛.H (triple_of 𝓛 f.signature (f.spec 𝓛 𝓜.mem 𝓡.returns))
     (tables 𝓤 𝓛.H 𝓜 𝓡 𝓡.env).C (tables 𝓤 𝓛.H 𝓜 𝓡 𝓡.env).Λ key code.function (code.unfolded 𝓤 𝓛.H 𝓜 𝓡 wired)
     (meets 𝓛 𝓜.mem 𝓡.returns (tables_of 𝓤 𝓛.H 𝓜 (tables 𝓤 𝓛.H 𝓜 𝓡 𝓡.env)))
