@@ -35,13 +35,18 @@ pub(crate) fn is_seated(world: &World<MemStable>, process: Pid, n: u32) -> bool
     }
 }
 
-// Returns what was received last.
+// The receipt of the frame of a number.
 #[tactic(auto, using(crate::proofs::Reading::is_received))]
-fn received(alloc: Global, world: &World<MemStable>, process: Pid) -> Result<Deed, AllocError>
-    ensures { IfOk result (λ deed. IsDeed deed process world.now Kind.Took) }
+fn received(
+    alloc: Global,
+    world: &World<MemStable>,
+    process: Pid,
+    frame: usize,
+) -> Result<Deed, AllocError>
+    ensures { IfOk result (λ deed. IsDeed deed process world.now (Kind.Took frame)) }
 {
-    match world.last_received() {
-        Some(entry) => Ok(Deed::Took(entry.from.index() as u32, entry.body.copy(alloc)?)),
+    match world.frames().get(frame) {
+        Some(message) => Ok(Deed::Took(message.from.index() as u32, message.body.copy(alloc)?)),
         None => Err(AllocError),
     }
 }
@@ -72,7 +77,7 @@ pub(crate) fn deed_of(
     match kind {
         Kind::Nothing => Ok(Deed::Nothing),
         Kind::Ran(turns) => Ok(Deed::Ran(turns)),
-        Kind::Took => received(alloc, world, process),
+        Kind::Took(frame) => received(alloc, world, process, frame),
         Kind::Back => machine_now(alloc, world, process),
         Kind::NoMemory => Err(AllocError),
     }
