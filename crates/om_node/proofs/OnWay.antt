@@ -30,7 +30,7 @@ use Rattle.om_process.specs.steps.Numbers.{made_entry}
 use Rattle.om_process.proofs.Making.{interval_along, part_has}
 use Rattle.om_process.specs.Core.{CoreState, CoreTurns, cluster_size, move_of, status_of, with_now}
 use Rattle.om_process.specs.declared.status.Status.{Status}
-use Rattle.om_process.specs.Parts.{Keeps}
+use Rattle.om_process.specs.Parts.{IsTrimmed}
 use Rattle.om_process.specs.Process.{Process, Received, delivered, empty_queue, made, started}
 use Rattle.om_process.specs.Replays.{process_of, received_of}
 use Rattle.om_process.specs.Starting.{started_core}
@@ -59,7 +59,7 @@ keep_themselves (q ∷ qs) = (([], refl, add-zero_of q.first), keep_themselves q
     add-zero_of : (x : ℕ) → x ≡ x + length {A = QueueEntry} []
     add-zero_of x = omega arith
 
-keeps_itself : (s : Process) → Keeps s s
+keeps_itself : (s : Process) → IsTrimmed s s
 keeps_itself s = record { same = refl; queues = keep_themselves s.queues }
 
 -- ---- the process
