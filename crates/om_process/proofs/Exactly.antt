@@ -12,7 +12,7 @@ use Rattle.om_process.specs.declared.replay.ReplayFault.TheVariants.{NoCheckpoin
 use Rattle.om_process.specs.Process.{Process, delivered}
 use Rattle.om_process.specs.Turns.{Turns}
 use Rattle.om_process.specs.Replays.{FitsReceipt, Replayed, process_of, received_of}
-use Rattle.om_process.specs.Stored.{anyone, AreReceiptsAfter, BeginsWith, CanReplay, IsCheckpointAt, IsNoMatterOfContent, IsReceiptAt, Refuses}
+use Rattle.om_process.specs.Stored.{anyone, AreReceiptsAfter, BeginsWith, CanReplay, IsCheckpointAt, IsCheckpointOf, IsNoMatterOfContent, IsReceiptAt, Refuses}
 use Rattle.om_process.proofs.Basics.{some_once}
 use Rattle.om_process.proofs.Runs.{waits_once}
 

@@ -15,7 +15,7 @@ use Rattle.om_process.specs.declared.replay.ReplayFault.TheVariants.{NoCheckpoin
 use Rattle.om_process.specs.Process.{Process}
 use Rattle.om_process.specs.Replays.{Replayed, process_of}
 use Rattle.om_process.specs.Core.{CoreState, cluster_size}
-use Rattle.om_process.specs.Stored.{anyone, AreReceiptsAfter, BeginsWith, StandsAfter, ComesTo, IsReceiptAt, IsNoMatterOfContent, Refuses}
+use Rattle.om_process.specs.Stored.{anyone, AreReceiptsAfter, BeginsWith, StandsAfter, ComesTo, IsCheckpointOf, IsReceiptAt, IsNoMatterOfContent, Refuses}
 use Rattle.om_process.specs.steps.Rows.{Ascend, AreGapless, ComesFrom, HasReceipts, IsFirstGap, IsReplayFrom, RefusesBytes, RefusesCheckpoint, RefusesFrom, RefusesRow, RefusesRows, RefusesStart, SpellRows, damage}
 use Rattle.om_process.proofs.Basics.{some_once}
 use Rattle.om_process.proofs.Replays.{fits_not_both}
