@@ -3,7 +3,7 @@
 ghost use Rattle.std.specs.Prelude.{◌≡◌, ◌↔◌, IfOk, IsErr, Some, codes};
 ghost use Rattle.om_arguments.specs.steps.Requests.{asked_by, ext_of, form_of, subcommand_named};
 
-use crate::debug_request::{DEBUG, Symbols, debug_command, debug_request, symbols_of};
+use crate::debug_request::{DEBUG, SymbolFile, debug_command, debug_request, symbols_of};
 use crate::draw_request::{DRAW, Lines, draw_command, lines_of};
 use crate::explore_request::{EXPLORE, Exploring, explore_command, exploring_of};
 use crate::look_requests::{
@@ -447,7 +447,7 @@ pub struct Asked<'a> {
     /// The file that is read in place of standard input, where one is named.
     pub input: Option<&'a str>,
     /// The files with the symbols of programs, for `debug`: one for each program at most.
-    pub symbols: Vec<Symbols<'a>>,
+    pub symbols: Vec<SymbolFile<'a>>,
     /// Whether more is said on standard error.
     pub verbose: bool,
 }

@@ -88,7 +88,7 @@ Example: from the end of a run back to what wrote the variable found.
 
 /// The file that has the symbols of a program.
 #[derive(Clone, Copy, Debug, PartialEq, Eq)]
-pub struct Symbols<'a> {
+pub struct SymbolFile<'a> {
     pub program: &'a str,
     pub file: &'a str,
 }
@@ -139,7 +139,7 @@ fn refuse_stream<'a>(path: &str) -> Result<(), Mistake<'a>>
 }
 
 // The program and the file of a word PROGRAM=FILE, of which neither is empty.
-fn symbols_in<'a>(word: &'a str) -> Option<Symbols<'a>>
+fn symbols_in<'a>(word: &'a str) -> Option<SymbolFile<'a>>
     ensures program { IfSome result (λ s. s.program.now ≡ before_first (λ byte. byte == 61) word.now) }
     ensures file { IfSome result (λ s. s.file.now ≡ after_first (λ byte. byte == 61) word.now) }
 {
@@ -147,7 +147,7 @@ fn symbols_in<'a>(word: &'a str) -> Option<Symbols<'a>>
     if program.is_empty() || file.is_empty() {
         return None;
     }
-    Some(Symbols { program, file })
+    Some(SymbolFile { program, file })
 }
 
 // Refuses a word that is no PROGRAM=FILE, and one whose program has a file already.
@@ -173,7 +173,7 @@ fn is_named(words: &[&str], program: &str) -> bool {
 pub(crate) fn symbols_of<'a>(
     alloc: Global,
     found: &ArgMatches<'a>,
-) -> Result<Vec<Symbols<'a>>, AllocError> {
+) -> Result<Vec<SymbolFile<'a>>, AllocError> {
     let mut all = Vec::new(alloc);
     for word in found.get_strs(ELF).unwrap_or(&[]) {
         if let Some(symbols) = symbols_in(word) {

@@ -17,7 +17,7 @@ pub use arguments::{
     Asked, Checking, FRONTIER_HELP, HELP, IMAGE_HELP, Kills, OutputForm, RUN_HELP, Request,
     Running, SIM_HELP, parse,
 };
-pub use debug_request::{DEBUG_HELP, Symbols};
+pub use debug_request::{DEBUG_HELP, SymbolFile};
 pub use draw_request::Lines;
 pub use ending::{end, end_unasked, end_unread};
 pub use explore_request::{EXPLORE_HELP, Exploring};
