@@ -2,7 +2,7 @@
 use Rattle.std.proofs.Common.{◌≡◌, ◌≢◌, ◌⊎◌, inl, inr, ℕ, zero, suc, ◌+◌, ◌-◌, ◌<◌, ◌≤◌, Bool, true, false, cond, List, [], ◌∷◌, ◌++◌, length, length-take-le, drop, take, get_or, refl, sym, ap, ◌∙◌, arith, subst, Vec}
 use Rattle.std.specs.declared.alloc.Global.{Global}
 use Rattle.std.specs.Prelude.{None, Some, IsSome, is_some, filter, ◌&&◌, nat_lt, nat_le}
-use Rattle.std.specs.List.{slice_get}
+use Rattle.std.specs.List.{slice_get, SwappedAt}
 use Rattle.std.specs.Bool.{OnTrue, OnFalse}
 use Rattle.std.specs.Ordering.{nat_cmp, eq_by_cmp, is_lt, ord_max, ord_min}
 use Rattle.std.specs.Cmp.{nat_cmp_total}
@@ -11,7 +11,7 @@ use Rattle.std.specs.FinMap.{empty, get, insert, retain_keys, entries, put, get-
 use Rattle.std.specs.FinMap.Entries.{by_order}
 use Rattle.std.proofs.lemmas.Bool.{cases_eq, cases_lt, leb-true, leb-false, ltb-true, ltb-false, OnTrue_from, OnFalse_from}
 use Rattle.std.proofs.lemmas.Bool.Decides.{nat_tests}
-use Rattle.std.proofs.lemmas.List.{drop-map, take-map, drop-drop, drop-take, length-drop, map_more}
+use Rattle.std.proofs.lemmas.List.{drop-map, take-map, drop-drop, drop-take, length-drop, map_more, get_or-drop, get_or-take, same_lists}
 use Rattle.std.proofs.Math.Logic.{⊎_elim}
 use Rattle.std.proofs.Math.Nat.{add-zero}
 use Rattle.std.proofs.Math.Seq.{drop-length}
@@ -28,6 +28,33 @@ bytes_dropped items gone count =
 pub bytes_taken : (items : List (Vec ℕ Global)) (gone count : ℕ) → bytes_of (drop gone (take (gone + count) items)) ≡ take count (bytes_of (drop gone items))
 bytes_taken items gone count =
     ap bytes_of (drop-take gone count items) ∙ sym (take-map (λ (r : Vec ℕ Global). r.items) count (drop gone items))
+
+-- ---- records that are moved to the front, one by one
+-- so many of those from `from` on stand at the front, and behind as many nothing has changed
+pub record IsMovedUpTo (old now : List (Vec ℕ Global)) (from count : ℕ) : Type 0 where
+  pub long : length now ≡ length old
+  pub moved : (i : ℕ) (d : Vec ℕ Global) → i < count → get_or now i d ≡ get_or old (from + i) d
+  pub rest : (i : ℕ) (d : Vec ℕ Global) → from + count ≤ i → get_or now i d ≡ get_or old i d
+
+pub moved_none : (old : List (Vec ℕ Global)) (from : ℕ) → IsMovedUpTo old old from 0
+moved_none old from = record { long = refl; moved = λ i d h. absurd (omega arith); rest = λ i d h. refl }
+
+pub moved_more : (old now new : List (Vec ℕ Global)) (from count : ℕ) → IsMovedUpTo old now from count → SwappedAt now new count (from + count) → length new ≡ length now → IsMovedUpTo old new from (count + 1)
+moved_more old now new from count so_far swapped same = record {
+  long = same ∙ so_far.long;
+  moved = λ i d h. ⊎_elim
+      (λ here. ap (λ k. get_or new k d) here ∙ swapped.0 d ∙ so_far.rest (from + count) d (omega arith) ∙ ap (λ k. get_or old (from + k) d) (sym here))
+      (λ before. let one : i ≢ count = omega arith in let other : i ≢ from + count = omega arith in swapped.2 i d one other ∙ so_far.moved i d (omega arith))
+      (cases_eq i count);
+  rest = λ i d h. let one : i ≢ count = omega arith in let other : i ≢ from + count = omega arith in swapped.2 i d one other ∙ so_far.rest i d (omega arith);
+}
+
+pub moved_all : (old now : List (Vec ℕ Global)) (from left count : ℕ) → left ≡ length old - from → from ≤ length old → left ≤ count → IsMovedUpTo old now from count → take left now ≡ drop from old
+moved_all old now from left count is within enough all =
+    let len = all.long in
+    let short : length (take left now) ≡ left = length-take-le left now (omega arith) in
+    same_lists (take left now) (drop from old) (omega (arith, length-drop from old)) (λ k d h.
+    get_or-take left now k d (omega arith) ∙ all.moved k d (omega arith) ∙ sym (get_or-drop from old k d))
 
 -- ---- what stands at an interval
 abbrev pub run_of : ℕ → List (List ℕ) → Records

@@ -1,4 +1,4 @@
-ghost use Rattle.std.specs.Prelude.{◌≡◌, ◌≤◌, ◌++◌, ◌∷◌, [], drop, take, length, OnOk, OnErr};
+ghost use Rattle.std.specs.Prelude.{◌≡◌, ◌≤◌, ◌+◌, ◌++◌, ◌∷◌, [], drop, take, length, OnOk, OnErr};
 ghost use Rattle.om_stable.specs.Content.{bytes_of};
 
 use std::alloc::{AllocError, Global};
@@ -85,8 +85,22 @@ impl RecordList {
     {
         self.gone += count;
         if self.gone > self.records.len() - self.gone {
-            self.records.drain(..self.gone);
+            move_to_front(&mut self.records, self.gone);
             self.gone = 0;
         }
     }
+}
+
+// Moves the records from `from` on to the front, in order, and drops what stood before them, which are no fewer. A drain would
+// turn the list through a room of its own, which costs more than the few that are moved.
+fn move_to_front(records: &mut Vec<Vec<u8>>, from: usize)
+    requires within { from ≤ length records.old.items }
+    requires fewer { length records.old.items ≤ from + from }
+    ensures { records.new.items ≡ drop from records.old.items }
+{
+    let left = records.len() - from;
+    for k in 0..left {
+        records.swap(k, from + k);
+    }
+    records.truncate(left);
 }

@@ -1,12 +1,11 @@
-use Rattle.std.proofs.Common.{rules, ◌≡◌, ◌+◌, ap, ◌∙◌, drop}
+use Rattle.std.proofs.Common.{ap, ◌∙◌, drop}
 use Rattle.om_stable.specs.Content.{bytes_of}
 use Rattle.om_stable.proofs.RunLemmas.{bytes_dropped}
 use Rattle.om_stable.proofs.record_list.RecordList.drop_front.Goals as goal
 
 pub returns-then-self-len : goal.returns-then-self-len
 returns-then-self-len c =
-    let left : c.drop-drain.new.self.0.items ≡ drop (c.self.inside.gone + c.args.count) c.self.inside.records.items = search rules in
-    ap bytes_of left
+    ap bytes_of c.move_to_front.ensures
     ∙ bytes_dropped c.self.inside.records.items c.self.inside.gone c.args.count
     ∙ ap (drop c.args.count) c.self.view_is
 
