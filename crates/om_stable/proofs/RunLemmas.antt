@@ -267,6 +267,11 @@ rows_from-push first (s ∷ rs) r =
     ap (λ rows. (first, s) ∷ rows) (rows_from-push (first + 1) rs r
     ∙ ap (λ x. rows_from (first + 1) rs ++ (x, r) ∷ []) (omega arith))
 
+-- ---- no record
+pub nothing_added : (held : Records) (first : ℕ) (recs : List (Vec ℕ Global)) → length recs ≡ 0 → held ≡ with_all held first (bytes_of recs)
+nothing_added held first [] none = refl
+nothing_added held first (r ∷ recs) none = absurd (omega arith)
+
 -- ---- a run without a record, wherever it begins
 pub empty_run : (first other : ℕ) (rs : List (List ℕ)) (held : Records) → length rs ≡ 0 → run_of other rs ≡ held → run_of first rs ≡ held
 empty_run first other [] held none is = is

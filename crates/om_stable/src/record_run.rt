@@ -55,8 +55,8 @@ impl RecordRun {
         low < cmp::min(u64::from(first) + count as u64, end)
     }
 
-    // Puts copies of the bytes at `first`, `first + 1`, .., all of them or none. Answers whether it put them: it does only
-    // where they stand right behind the last, or where it has none.
+    // Puts copies of the bytes at `first`, `first + 1`, .., all of them or none. Answers whether it put them: it does where there
+    // is none to put, where it has none, and else only right behind the last.
     pub(crate) fn append(
         &mut self,
         alloc: Global,
@@ -69,6 +69,9 @@ impl RecordRun {
         ensures passed { IfOk result (λ put. OnFalse put (self.new ≡ self.old)) }
         ensures err { OnErr result (self.new ≡ self.old) }
     {
+        if recs.is_empty() {
+            return Ok(true);
+        }
         if self.records.len() == 0 {
             self.first = u64::from(first);
         }

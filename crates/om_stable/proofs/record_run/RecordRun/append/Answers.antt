@@ -1,9 +1,13 @@
-use Rattle.std.proofs.Common.{arith, ◌≡◌, ◌∙◌, sym}
+use Rattle.std.proofs.Common.{arith, ◌≡◌, ◌∙◌, sym, length}
 use Rattle.std.specs.FinMap as map
 use Rattle.om_stable.specs.Content.{with_all, bytes_of}
-use Rattle.om_stable.proofs.RunLemmas.{appended, empty_run}
+use Rattle.std.proofs.lemmas.Bool.{eqb-true}
+use Rattle.om_stable.proofs.RunLemmas.{appended, empty_run, nothing_added}
 use Rattle.om_stable.proofs.record_run.RecordRun.append.Goals as goal
 use Rattle.om_stable.proofs.record_run.RecordRun.append.Goals.{then-len-eq0, else-len-eq0}
+
+pub returns-then-is_empty-clause-put : goal.returns-then-is_empty-clause-put
+returns-then-is_empty-clause-put c = nothing_added c.args.self.now c.args.first c.args.recs.now (eqb-true (length c.args.recs.now) 0 (sym c.is_empty.ensures ∙ c.if-is_empty.true))
 
 pub returns-clause-put : goal.returns-clause-put
 returns-clause-put c =
