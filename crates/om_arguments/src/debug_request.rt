@@ -22,6 +22,11 @@ const STORE_WORDS: &str = "--store <FILE> [INTERVAL]";
 
 static STORE_VALUES: [&str; 2] = ["FILE", "INTERVAL"];
 
+// With a store no record is named.
+const USAGE: &str = "\
+omlog debug [OPTIONS] <RECORD>
+       omlog debug [OPTIONS] --store <FILE> [INTERVAL]";
+
 /// What `--help` tells of `debug`.
 pub const DEBUG_HELP: &str = "\
 Shows processes of a record to gdb, at any moment of the run, forward and back.
@@ -190,6 +195,7 @@ pub(crate) fn debug_command<'a>(alloc: Global) -> Result<Command<'a>, AllocError
         .required(true);
     Command::new(alloc, DEBUG)
         .about("A process of a record under gdb, forward and back")
+        .override_usage(USAGE)
         .after_long_help(DEBUG_HELP)
         .arg(process_option(alloc))?
         .arg(elf_option(alloc)?)?
