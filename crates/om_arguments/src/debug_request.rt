@@ -5,7 +5,8 @@ ghost use Rattle.std.specs.List.{after_first, before_first};
 ghost use Rattle.om_arguments.specs.steps.Requests.{asked_by};
 ghost use Rattle.om_arguments.specs.declared.arguments.Subcommand.{Subcommand};
 
-use crate::arguments::{INPUT, Request, STANDARD_STREAM};
+use crate::arguments::{Request, STANDARD_STREAM};
+use crate::commands::INPUT;
 use crate::mistake::{Mistake, needed, number_for};
 use clap::{Arg, ArgAction, ArgMatches, Command};
 use std::alloc::{AllocError, Global};
