@@ -5,7 +5,8 @@ ghost use Rattle.std.specs.List.{after_first, before_first};
 ghost use Rattle.om_arguments.specs.steps.Requests.{asked_by};
 ghost use Rattle.om_arguments.specs.declared.arguments.Subcommand.{Subcommand};
 
-use crate::arguments::{INPUT, Request, STANDARD_STREAM};
+use crate::arguments::{Request, STANDARD_STREAM};
+use crate::commands::INPUT;
 use crate::mistake::{Mistake, needed, number_for};
 use clap::{Arg, ArgAction, ArgMatches, Command};
 use std::alloc::{AllocError, Global};
@@ -21,6 +22,11 @@ const STORE: &str = "store";
 const STORE_WORDS: &str = "--store <FILE> [INTERVAL]";
 
 static STORE_VALUES: [&str; 2] = ["FILE", "INTERVAL"];
+
+// With a store no record is named.
+const USAGE: &str = "\
+omlog debug [OPTIONS] <RECORD>
+       omlog debug [OPTIONS] --store <FILE> [INTERVAL]";
 
 /// What `--help` tells of `debug`.
 pub const DEBUG_HELP: &str = "\
@@ -190,6 +196,7 @@ pub(crate) fn debug_command<'a>(alloc: Global) -> Result<Command<'a>, AllocError
         .required(true);
     Command::new(alloc, DEBUG)
         .about("A process of a record under gdb, forward and back")
+        .override_usage(USAGE)
         .after_long_help(DEBUG_HELP)
         .arg(process_option(alloc))?
         .arg(elf_option(alloc)?)?
