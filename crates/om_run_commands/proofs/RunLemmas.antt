@@ -53,7 +53,7 @@ report_of_run over_clean programs images r report is same whole =
 pub report_of_pair : {A E : Type 0} (over_clean : Type 0) (programs : List Program) (images : List Image) (r : Result (Report × A) E) (done : Report × A)
     → r ≡ Ok done → map program_of images ≡ programs
     → IfOk r (λ d. IsWholeReport over_clean (map program_of images) d.0) → IsReport over_clean programs done.0
-report_of_pair over_clean programs images r done is same whole =
+report_of_pair {A} over_clean programs images r done is same whole =
     let of_images = ok_at (λ (d : Report × A). IsWholeReport over_clean (map program_of images) d.0) r done is whole in
     subst (λ ps. IsReport over_clean ps done.0) same of_images.is_report
 
