@@ -19,7 +19,7 @@ use Rattle.om_process.specs.declared.status.Status.{Status}
 use Rattle.om_scripts.specs.Named.{place_of}
 use Rattle.om_scripts.specs.Programs.{programs_of}
 use Rattle.om_report.specs.declared.report.Report.{Report}
-use Rattle.om_runner.specs.Reports.{IsReport}
+use Rattle.om_report.specs.Reports.{IsReport}
 use Rattle.om_runner.specs.Telling.{AreInOrder, AreToldMade, Told, TellsAll, of_process, outputs_in, told_of}
 use Rattle.om_report.specs.declared.follower.FollowFault.{FollowFault}
 use Rattle.om_report.specs.declared.follower.FollowFault.TheVariants.{Run, Unwanted}

@@ -12,7 +12,7 @@ use Rattle.om_process.specs.Process.{Program}
 use Rattle.om_process.specs.declared.image.Image.{Image}
 use Rattle.om_process.specs.declared.status.Status.{Status}
 use Rattle.om_scripts.specs.Programs.{Cluster, program_at, programs_of}
-use Rattle.om_runner.specs.Reports.{IsReport, IsWholeReport}
+use Rattle.om_report.specs.Reports.{IsReport, IsWholeReport}
 use Rattle.om_report.specs.declared.report.Report.{Report}
 use Rattle.om_report.specs.declared.fault.RunFault.{RunFault}
 use Rattle.om_report.specs.declared.fault.RunFault.TheVariants as running

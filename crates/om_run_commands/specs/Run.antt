@@ -3,7 +3,7 @@ use Rattle.std.specs.Prelude.{◌≡◌, ℕ, ◌≤◌, List, None, length, map
 use Rattle.om_manager.specs.Outputs.{HeldOutput, held_of}
 use Rattle.om_scripts.specs.Named.{place_of}
 use Rattle.om_scripts.specs.Programs.{programs_of}
-use Rattle.om_runner.specs.Reports.{IsReport}
+use Rattle.om_report.specs.Reports.{IsReport}
 use Rattle.om_report.specs.declared.report.Report.{Report}
 use Rattle.om_commands.specs.Command.{AnswersScript, IsErrorOf, IsScript}
 use Rattle.om_run_commands.specs.ClusterScript.{ClusterFile, cluster_file_line, no_settings}

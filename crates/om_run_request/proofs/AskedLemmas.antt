@@ -15,7 +15,7 @@ use Rattle.om_report.specs.declared.report.Report.{Report}
 use Rattle.om_run_commands.specs.ClusterScript.{ClusterFile}
 use Rattle.om_run_commands.specs.Follow.{IsFollowedAnswer, IsFollowedRawAnswer}
 use Rattle.om_run_commands.specs.Modes.{IsErrorIn, IsPartIn, IsRunIn}
-use Rattle.om_runner.specs.Reports.{IsReport}
+use Rattle.om_report.specs.Reports.{IsReport}
 use Rattle.om_run_commands.specs.Run.{IsByKind, IsRawAnswer, IsRunAnswer}
 use Rattle.om_run_commands.specs.declared.mode.RunMode.{RunMode}
 use Rattle.om_run_commands.specs.declared.mode.RunMode.TheVariants as modes

@@ -12,7 +12,8 @@ use Rattle.om_manager.specs.declared.output_log.Output.{Output}
 use Rattle.om_process.specs.Process.{Program}
 use Rattle.om_report.specs.Released.{AreAllMade, AreAllReleased}
 use Rattle.om_report.specs.declared.report.Report.{Report}
-use Rattle.om_runner.specs.Reports.{AreWhole, AreWholeOver, IsReport, IsWholeReport, LeaveNoneOut}
+use Rattle.om_report.specs.Reports.{AreWhole, IsReport, IsWholeReport, LeaveNoneOut}
+use Rattle.om_runner.specs.Reports.{AreWholeOver}
 use Rattle.om_node.specs.Ends.{IsWholeRun}
 use Rattle.om_node.specs.Nodes.{AreAlwaysClean}
 use Rattle.om_board.specs.Boards.{IsBoard}

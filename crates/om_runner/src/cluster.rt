@@ -9,7 +9,8 @@ ghost use Rattle.om_report.specs.declared.fault.RunFault.TheVariants.{Memory};
 ghost use Rattle.om_node.specs.Nodes.{AreAlwaysClean};
 ghost use Rattle.om_worker.specs.Ends.{IsGiven};
 ghost use Rattle.om_worker_parts.specs.Wiring.{IsWired};
-ghost use Rattle.om_runner.specs.Reports.{AreWholeOver, IsWholeReport};
+ghost use Rattle.om_report.specs.Reports.{IsWholeReport};
+ghost use Rattle.om_runner.specs.Reports.{AreWholeOver};
 ghost use Rattle.om_runner.specs.steps.Ends.{AreParts};
 ghost use Rattle.om_runner.specs.steps.Settling.{ArePasses, AreSettled};
 

@@ -7,7 +7,7 @@ ghost use Rattle.om_report.specs.Following.{IsFollowed};
 ghost use Rattle.om_report.specs.Telling.{AreInOrder, AreToldMade, TellsAll, Told};
 ghost use Rattle.om_report.specs.declared.follower.FollowFault.TheVariants.{Unwanted};
 ghost use Rattle.om_node.specs.Nodes.{AreAlwaysClean};
-ghost use Rattle.om_runner.specs.Reports.{IsReport};
+ghost use Rattle.om_report.specs.Reports.{IsReport};
 ghost use Rattle.om_runner.specs.steps.Ends.{AreParts};
 
 use crate::cluster::{run_workers, settled};
