@@ -5,7 +5,8 @@ ghost use Rattle.std.specs.List.{after_first, before_first};
 ghost use Rattle.om_arguments.specs.steps.Requests.{asked_by};
 ghost use Rattle.om_arguments.specs.declared.arguments.Subcommand.{Subcommand};
 
-use crate::arguments::{INPUT, Request, STANDARD_STREAM};
+use crate::arguments::{Request, STANDARD_STREAM};
+use crate::commands::INPUT;
 use crate::mistake::{Mistake, needed, number_for};
 use clap::{Arg, ArgAction, ArgMatches, Command};
 use std::alloc::{AllocError, Global};
@@ -21,6 +22,11 @@ const STORE: &str = "store";
 const STORE_WORDS: &str = "--store <FILE> [INTERVAL]";
 
 static STORE_VALUES: [&str; 2] = ["FILE", "INTERVAL"];
+
+// With a store no record is named.
+const USAGE: &str = "\
+omlog debug [OPTIONS] <RECORD>
+       omlog debug [OPTIONS] --store <FILE> [INTERVAL]";
 
 /// What `--help` tells of `debug`.
 pub const DEBUG_HELP: &str = "\
@@ -88,7 +94,7 @@ Example: from the end of a run back to what wrote the variable found.
 
 /// The file that has the symbols of a program.
 #[derive(Clone, Copy, Debug, PartialEq, Eq)]
-pub struct Symbols<'a> {
+pub struct SymbolFile<'a> {
     pub program: &'a str,
     pub file: &'a str,
 }
@@ -139,7 +145,7 @@ fn refuse_stream<'a>(path: &str) -> Result<(), Mistake<'a>>
 }
 
 // The program and the file of a word PROGRAM=FILE, of which neither is empty.
-fn symbols_in<'a>(word: &'a str) -> Option<Symbols<'a>>
+fn symbols_in<'a>(word: &'a str) -> Option<SymbolFile<'a>>
     ensures program { IfSome result (λ s. s.program.now ≡ before_first (λ byte. byte == 61) word.now) }
     ensures file { IfSome result (λ s. s.file.now ≡ after_first (λ byte. byte == 61) word.now) }
 {
@@ -147,7 +153,7 @@ fn symbols_in<'a>(word: &'a str) -> Option<Symbols<'a>>
     if program.is_empty() || file.is_empty() {
         return None;
     }
-    Some(Symbols { program, file })
+    Some(SymbolFile { program, file })
 }
 
 // Refuses a word that is no PROGRAM=FILE, and one whose program has a file already.
@@ -173,7 +179,7 @@ fn is_named(words: &[&str], program: &str) -> bool {
 pub(crate) fn symbols_of<'a>(
     alloc: Global,
     found: &ArgMatches<'a>,
-) -> Result<Vec<Symbols<'a>>, AllocError> {
+) -> Result<Vec<SymbolFile<'a>>, AllocError> {
     let mut all = Vec::new(alloc);
     for word in found.get_strs(ELF).unwrap_or(&[]) {
         if let Some(symbols) = symbols_in(word) {
@@ -190,6 +196,7 @@ pub(crate) fn debug_command<'a>(alloc: Global) -> Result<Command<'a>, AllocError
         .required(true);
     Command::new(alloc, DEBUG)
         .about("A process of a record under gdb, forward and back")
+        .override_usage(USAGE)
         .after_long_help(DEBUG_HELP)
         .arg(process_option(alloc))?
         .arg(elf_option(alloc)?)?

@@ -45,39 +45,39 @@ static MISTAKES: [(&[&str], &str); 28] = [
     ),
     (
         &["omlog", "debug"],
-        "error: the following required arguments were not provided:\n  <RECORD>\n\nUsage: omlog debug <RECORD>\n\nFor more information, try '--help'.\n",
+        "error: the following required arguments were not provided:\n  <RECORD>\n\nUsage: omlog debug [OPTIONS] <RECORD>\n       omlog debug [OPTIONS] --store <FILE> [INTERVAL]\n\nFor more information, try '--help'.\n",
     ),
     (
         &["omlog", "debug", "--process", "p"],
-        "error: the following required arguments were not provided:\n  <RECORD>\n\nUsage: omlog debug --process <NAME> <RECORD>\n\nFor more information, try '--help'.\n",
+        "error: the following required arguments were not provided:\n  <RECORD>\n\nUsage: omlog debug [OPTIONS] <RECORD>\n       omlog debug [OPTIONS] --store <FILE> [INTERVAL]\n\nFor more information, try '--help'.\n",
     ),
     (
         &["omlog", "debug", "--process", "p", "-"],
-        "error: invalid value '-' for '<RECORD>': packets come over standard input, and a file is needed; ./- is one of this name\n\nUsage: omlog debug [OPTIONS] <RECORD>\n\nFor more information, try '--help'.\n",
+        "error: invalid value '-' for '<RECORD>': packets come over standard input, and a file is needed; ./- is one of this name\n\nUsage: omlog debug [OPTIONS] <RECORD>\n       omlog debug [OPTIONS] --store <FILE> [INTERVAL]\n\nFor more information, try '--help'.\n",
     ),
     (
         &["omlog", "debug", "--elf", "q", "r"],
-        "error: invalid value 'q' for '--elf <PROGRAM=FILE>': it is no program and a file with = between them\n\nUsage: omlog debug [OPTIONS] <RECORD>\n\nFor more information, try '--help'.\n",
+        "error: invalid value 'q' for '--elf <PROGRAM=FILE>': it is no program and a file with = between them\n\nUsage: omlog debug [OPTIONS] <RECORD>\n       omlog debug [OPTIONS] --store <FILE> [INTERVAL]\n\nFor more information, try '--help'.\n",
     ),
     (
         &["omlog", "debug", "--elf", "=q.elf", "r"],
-        "error: invalid value '=q.elf' for '--elf <PROGRAM=FILE>': it is no program and a file with = between them\n\nUsage: omlog debug [OPTIONS] <RECORD>\n\nFor more information, try '--help'.\n",
+        "error: invalid value '=q.elf' for '--elf <PROGRAM=FILE>': it is no program and a file with = between them\n\nUsage: omlog debug [OPTIONS] <RECORD>\n       omlog debug [OPTIONS] --store <FILE> [INTERVAL]\n\nFor more information, try '--help'.\n",
     ),
     (
         &["omlog", "debug", "--elf=q=", "r"],
-        "error: invalid value 'q=' for '--elf <PROGRAM=FILE>': it is no program and a file with = between them\n\nUsage: omlog debug [OPTIONS] <RECORD>\n\nFor more information, try '--help'.\n",
+        "error: invalid value 'q=' for '--elf <PROGRAM=FILE>': it is no program and a file with = between them\n\nUsage: omlog debug [OPTIONS] <RECORD>\n       omlog debug [OPTIONS] --store <FILE> [INTERVAL]\n\nFor more information, try '--help'.\n",
     ),
     (
         &["omlog", "debug", "--elf", "q=a", "--elf", "q=a", "r"],
-        "error: invalid value 'q=a' for '--elf <PROGRAM=FILE>': its program has a file already\n\nUsage: omlog debug [OPTIONS] <RECORD>\n\nFor more information, try '--help'.\n",
+        "error: invalid value 'q=a' for '--elf <PROGRAM=FILE>': its program has a file already\n\nUsage: omlog debug [OPTIONS] <RECORD>\n       omlog debug [OPTIONS] --store <FILE> [INTERVAL]\n\nFor more information, try '--help'.\n",
     ),
     (
         &["omlog", "debug", "--elf", "q=a", "--process", "p", "r"],
-        "error: the argument '--elf <PROGRAM=FILE>' cannot be used with '--process <NAME>'\n\nUsage: omlog debug --elf <PROGRAM=FILE> <RECORD>\n\nFor more information, try '--help'.\n",
+        "error: the argument '--elf <PROGRAM=FILE>' cannot be used with '--process <NAME>'\n\nUsage: omlog debug [OPTIONS] <RECORD>\n       omlog debug [OPTIONS] --store <FILE> [INTERVAL]\n\nFor more information, try '--help'.\n",
     ),
     (
         &["omlog", "debug", "--store", "q1.db", "x"],
-        "error: invalid value 'x' for '--store <FILE> [INTERVAL]': it is no number of 32 bits\n\nUsage: omlog debug [OPTIONS] <RECORD>\n\nFor more information, try '--help'.\n",
+        "error: invalid value 'x' for '--store <FILE> [INTERVAL]': it is no number of 32 bits\n\nUsage: omlog debug [OPTIONS] <RECORD>\n       omlog debug [OPTIONS] --store <FILE> [INTERVAL]\n\nFor more information, try '--help'.\n",
     ),
     (
         &["omlog", "show"],

@@ -1,7 +1,7 @@
 //! Command lines, and what they ask for.
 
 use om_arguments::{
-    Asked, Checking, Exploring, Kills, Lines, Look, OutputForm, Request, Running, Symbols, parse,
+    Asked, Checking, Exploring, Kills, Lines, Look, OutputForm, Request, Running, SymbolFile, parse,
 };
 use om_isa::Ext;
 use std::alloc::Global;
@@ -458,7 +458,7 @@ fn files_with_symbols(rt: HostRuntime) {
             assert_eq!(&rt; asked.input, Some("record"));
             assert_eq!(&rt; asked.symbols.len(), wanted.len());
             for (symbols, (program, file)) in asked.symbols.iter().zip(wanted) {
-                assert_eq!(&rt; *symbols, Symbols { program, file });
+                assert_eq!(&rt; *symbols, SymbolFile { program, file });
             }
         }
         Err(error) => panic!(&rt; "{error}"),

@@ -6,7 +6,7 @@ use Rattle.om_format.specs.Queues.{QueueRecord, queue_end}
 use Rattle.om_process.specs.Claims.{HasEntry}
 use Rattle.om_process.specs.Core.{CoreState, IsEnd, cluster_size, move_of, status_of}
 use Rattle.om_process.specs.Kept.{queue_at}
-use Rattle.om_process.specs.Parts.{Grow, Keeps, KeepsQueue}
+use Rattle.om_process.specs.Parts.{Grow, IsTrimmed, IsTrimmedQueue}
 use Rattle.om_process.specs.steps.Pieces.{KeepQueues}
 use Rattle.om_process.specs.Process.{Process, Program, Received, Move, Waits, Ends, Traps, Goes, Emits, empty_queue, made, moved, started}
 use Rattle.om_process.specs.Turns.{Reaches, Turns, next_move}
@@ -67,7 +67,7 @@ same_end [] (q ∷ qs) place k = absurd k
 same_end (f ∷ fs) [] place k = absurd k
 same_end (f ∷ fs) (q ∷ qs) zero k = one f q k.0
   where
-    one : (f q : QueueRecord) → KeepsQueue f q → queue_end q ≡ queue_end f
+    one : (f q : QueueRecord) → IsTrimmedQueue f q → queue_end q ≡ queue_end f
     one f q keeps =
         let e : length f.entries ≡ length keeps.0 + length q.entries = ap length keeps.1 ∙ length-append keeps.0 q.entries in
         let g : q.first ≡ f.first + length keeps.0 = keeps.2 in
@@ -145,7 +145,7 @@ pub core_once : {c d : CoreState} → Some (Some c) ≡ Some (Some d) → c ≡ 
 core_once same = cc
 
 -- what comes next in a core is what comes next where its receipts lead
-pub same_next : (c : CoreState) (p n : ℕ) (whole : Process) → c.own ≡ p → cluster_size c.now ≡ n → Keeps whole c.now
+pub same_next : (c : CoreState) (p n : ℕ) (whole : Process) → c.own ≡ p → cluster_size c.now ≡ n → IsTrimmed whole c.now
     → move_of c ≡ next_move p n whole.machine (made whole.queues)
 same_next c p n whole own size keeps =
     ap (λ o. next_move o (cluster_size c.now) c.now.machine (made c.now.queues)) own
@@ -155,7 +155,7 @@ same_next c p n whole own size keeps =
 -- by the parts of what is known of one process
 ends_so : (w : WorldState) (program : Program) (p n : ℕ) (h : List Received) (c : CoreState) (whole s : Process) (outputs : List HeldOutput)
     → c.own ≡ p → cluster_size c.now ≡ n → IsAtRest (status_of (move_of c)) → made_by c ≡ length outputs
-    → Reaches program p n h whole → Keeps whole c.now → Reaches program p n h s
+    → Reaches program p n h whole → IsTrimmed whole c.now → Reaches program p n h s
     → ((i : ℕ) (o : HeldOutput) → slice_get outputs i ≡ Some o → HasEntry s.queues n i (output_entry o))
     → RestsWith program p n h outputs (status_of (move_of c))
 ends_so w program p n h c whole s outputs own size ended number reaches keeps other first = record {

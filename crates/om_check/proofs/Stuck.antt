@@ -1,6 +1,7 @@
 -- Events that are played one behind another, and a world in which nothing is left to happen.
 use Rattle.std.proofs.Common.{◌≡◌, ◌⊎◌, inl, inr, ℕ, ◌≤◌, ◌<◌, List, [], ◌∷◌, ◌++◌, length, Some, refl, sym, ap, subst, ◌∙◌, arith}
 use Rattle.std.specs.Prelude.{slice_get, slice_index}
+use Rattle.om_format.specs.declared.message.Message.{Message}
 use Rattle.om_format.specs.declared.queue.QueueEntry.{QueueEntry}
 use Rattle.om_process.specs.Claims.{HasEntry}
 use Rattle.om_process.specs.Core.{CoreState, IsEnd, cluster_size, move_of, status_of}
@@ -15,15 +16,14 @@ use Rattle.om_world.specs.Holds.{StandsAt}
 use Rattle.om_manager.specs.State.{released_by}
 use Rattle.om_world.specs.Live.{Legal, program_at, received}
 use Rattle.om_world.specs.Played.{Played, Step}
-use Rattle.om_world.specs.World.{IsKnown, WorldState}
-use Rattle.om_world.specs.declared.entry.Entry.{Entry}
+use Rattle.om_world.specs.World.{IsKnown, WorldState, entry_of}
+use Rattle.om_world.proofs.Lists.{once}
 use Rattle.om_world.specs.declared.event.Event.{Event}
 use Rattle.om_world.specs.declared.event.Answer.{Answer}
 use Rattle.om_check.specs.FailureFree.{IsAtRest, IsStuckBy, RestsWith}
 use Rattle.om_check.specs.Whole.{AreReleasedIn, AreStatusesOf, IsDone, IsStarved, IsStuck, IsUnderWay, KeepsReceived}
-use Rattle.om_check.proofs.Lists.{snoc_same}
 use Rattle.om_check.proofs.Ending.{IsRested, below, core_once, end_has, rested_done, rests_with, same_next, stands_at}
-use Rattle.om_check.specs.steps.Playing.{HasDelivered, HasReceived, IsLast, KeepsLive, StaysARun, StaysUnderWay, WasPlayed}
+use Rattle.om_check.specs.steps.Playing.{HasDelivered, HasReceived, IsOf, IsTaken, KeepsLive, StaysARun, StaysUnderWay, WasPlayed}
 
 -- ---- one event more
 played_on : (old mid new : WorldState) (es : List Event) (answers : List Answer) (e : Event) (a : Answer)
@@ -77,17 +77,15 @@ live_known old new stays same programs way = same (stays programs way).known
 pub live_stays : (xs ys : List Event) (old mid new : WorldState) → StaysARun xs old ys mid → KeepsLive old mid → KeepsLive mid new → KeepsLive old new
 live_stays xs ys old mid new run first second programs way = second programs (run programs way).0 ∙ first programs way
 
-pub received_known : (old new : WorldState) → StaysUnderWay old new
-    → (IsKnown new → (e : Entry) × (new.live ≡ old.live ++ e ∷ [])) → HasReceived old new
-received_known old new stays got programs way = got (stays programs way).known
+pub received_known : (old new : WorldState) (frame : ℕ) → StaysUnderWay old new → (IsKnown new → IsTaken old frame new) → HasReceived old frame new
+received_known old new frame stays got programs way = got (stays programs way).known
 
--- what was received last is of these two
-pub received_from_it : (old new : WorldState) (from to : ℕ) → HasReceived old new
-    → ((e : Entry) × IsLast new.live e × (e.from ≡ from) × (e.to ≡ to)) → HasDelivered old new from to
-received_from_it old new from to got last programs way =
-    let e = got programs way in
-    let same : e.0 ≡ last.0 = (snoc_same old.live last.1.0 e.0 last.0 (sym e.1 ∙ last.1.1)).1 in
-    (e.0, e.1, ap (λ (x : Entry). x.from) same ∙ last.2, ap (λ (x : Entry). x.to) same ∙ last.3)
+-- what is received is of these two
+pub received_from_it : (old new : WorldState) (frame from to : ℕ) → HasReceived old frame new → IsOf old frame from to → HasDelivered old new from to
+received_from_it old new frame from to got of programs way =
+    let m = got programs way in
+    let same : m.0 ≡ of.0 = once m.0 of.0 (sym m.1 ∙ of.1) in
+    (entry_of m.0, m.2, ap (λ (x : Message). x.from) same ∙ of.2, ap (λ (x : Message). x.to) same ∙ of.3)
 
 pub delivered_stays : (xs ys : List Event) (old mid new : WorldState) (from to : ℕ) → StaysARun xs old ys mid → HasDelivered old mid from to → KeepsLive mid new
     → HasDelivered old new from to

@@ -1,10 +1,9 @@
 //! The events of a run without failures, each by itself.
 
-ghost use Rattle.std.specs.Prelude.{◌≡◌, ◌++◌, ◌∷◌, [], OnOk};
+ghost use Rattle.std.specs.Prelude.{◌≡◌, OnOk};
 ghost use Rattle.om_world.specs.declared.event.Event.{Event};
-ghost use Rattle.om_world.specs.declared.entry.Entry.{Entry};
 ghost use Rattle.om_world.specs.World.{IsKnown};
-ghost use Rattle.om_check.specs.steps.Playing.{StaysUnderWay, WasPlayed};
+ghost use Rattle.om_check.specs.steps.Playing.{IsTaken, StaysUnderWay, WasPlayed};
 
 use crate::fault::PlayFault;
 use om_interval::Pid;
@@ -44,7 +43,7 @@ pub(crate) fn give(
     frame: usize,
 ) -> Result<(), PlayFault>
     ensures way { OnOk result (StaysUnderWay world.old world.new) }
-    ensures live { OnOk result (IsKnown world.new → (e : Entry) × (world.new.live ≡ world.old.live ++ e ∷ [])) }
+    ensures live { OnOk result (IsKnown world.new → IsTaken world.old frame world.new) }
     ensures played { OnOk result (WasPlayed world.old (Event.Give pid frame) world.new) }
 {
     let process = pid.index();

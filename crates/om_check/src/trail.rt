@@ -2,8 +2,7 @@
 
 ghost use Rattle.std.specs.Prelude.{◌≡◌, ◌≤◌, OnOk};
 ghost use Rattle.om_interval.specs.declared.pid.TheConstants.{MAX_PROCESSES};
-ghost use Rattle.om_world.specs.declared.entry.Entry.{Entry};
-ghost use Rattle.om_check.specs.steps.Playing.{HasDelivered, HasReceived, IsLast, KeepsLive, StaysARun};
+ghost use Rattle.om_check.specs.steps.Playing.{HasDelivered, HasReceived, IsOf, KeepsLive, StaysARun};
 
 use crate::events::{checkpoint, flush, give, prune, run, trim};
 use crate::fault::PlayFault;
@@ -61,7 +60,7 @@ impl Trail {
     // Gives a process a frame.
     fn give(&mut self, pid: Pid, frame: usize) -> Result<(), PlayFault>
         ensures run { OnOk result (StaysARun self.old.events.items self.old.stage.world self.new.events.items self.new.stage.world) }
-        ensures live { OnOk result (HasReceived self.old.stage.world self.new.stage.world) }
+        ensures live { OnOk result (HasReceived self.old.stage.world frame self.new.stage.world) }
     {
         let process = pid.index();
         self.events.try_reserve(1)?;
@@ -70,12 +69,12 @@ impl Trail {
         Ok(())
     }
 
-    // Refused where what was received last is not of these two.
-    fn is_of(&self, from: Pid, to: Pid) -> Result<(), PlayFault>
-        ensures { OnOk result ((e : Entry) × IsLast self.now.stage.world.live e × (e.from ≡ from) × (e.to ≡ to)) }
+    // Refused where a frame is not of these two.
+    fn is_of(&self, frame: usize, from: Pid, to: Pid) -> Result<(), PlayFault>
+        ensures { OnOk result (IsOf self.now.stage.world frame from to) }
     {
-        match self.stage.world.last_received() {
-            Some(entry) if entry.from == from && entry.to == to => Ok(()),
+        match self.stage.world.frames().get(frame) {
+            Some(message) if message.from == from && message.to == to => Ok(()),
             _ => Err(PlayFault::NotSent(to)),
         }
     }
@@ -165,8 +164,8 @@ impl Trail {
         let Some(frame) = self.stage.lines.take(from.index(), to.index()) else {
             return Err(PlayFault::NotSent(to));
         };
+        self.is_of(frame, from, to)?;
         self.give(to, frame)?;
-        self.is_of(from, to)?;
         Ok(())
     }
 

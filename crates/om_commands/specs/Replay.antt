@@ -2,7 +2,7 @@
 use Rattle.std.specs.Prelude.{◌≡◌, ℕ, List}
 use Rattle.om_stable.specs.Content.{Content}
 use Rattle.om_process.specs.Core.{CoreState}
-use Rattle.om_process.specs.Stored.{Anyone, CanReplay, IsReplay, Refuses}
+use Rattle.om_process.specs.Stored.{anyone, CanReplay, IsReplay, Refuses}
 use Rattle.om_process.specs.declared.replay.ReplayFault.TheVariants as replaying
 use Rattle.om_commands.specs.StateText.{state_text}
 use Rattle.om_commands.specs.declared.error.CommandError.{CommandError}
@@ -14,13 +14,13 @@ IsReplayText held x text = (core : CoreState) × IsReplay held x core × (text �
 
 -- The error is that of the content. Those of the store, the writer and memory may come whatever it is.
 abbrev pub IsReplayError : Content → ℕ → CommandError → Type 0
-IsReplayError held x errors.NoCheckpoint = Refuses Anyone held x replaying.NoCheckpoint
-IsReplayError held x (errors.Damaged y) = Refuses Anyone held x (replaying.Damaged y)
-IsReplayError held x (errors.MissingReceipt y) = Refuses Anyone held x (replaying.MissingReceipt y)
-IsReplayError held x (errors.Mismatch y) = Refuses Anyone held x (replaying.Mismatch y)
+IsReplayError held x errors.NoCheckpoint = Refuses anyone held x replaying.NoCheckpoint
+IsReplayError held x (errors.Damaged y) = Refuses anyone held x (replaying.Damaged y)
+IsReplayError held x (errors.MissingReceipt y) = Refuses anyone held x (replaying.MissingReceipt y)
+IsReplayError held x (errors.Mismatch y) = Refuses anyone held x (replaying.Mismatch y)
 IsReplayError held x errors.StoreFault = Unit {0}
 IsReplayError held x errors.NoMemory = Unit {0}
-IsReplayError held x errors.CannotWrite = CanReplay Anyone held x
+IsReplayError held x errors.CannotWrite = CanReplay anyone held x
 IsReplayError held x _ = ⊥
 
 -- the errors that the content does not tell

@@ -3,7 +3,7 @@
 ghost use Rattle.std.specs.Prelude.{◌≡◌, ℕ, List, IfOk, IfErr, OnOk, IsErrOf, Err, ◌≢◌, string_bytes};
 ghost use Rattle.std.specs.Io.KnownBytes.{Appends, Keeps};
 ghost use Rattle.om_stable.specs.Calls.{IsCleanCall, UsesStore};
-ghost use Rattle.om_process.specs.Stored.{Anyone, CanReplay};
+ghost use Rattle.om_process.specs.Stored.{anyone, CanReplay};
 ghost use Rattle.om_commands.specs.Command.{IsSilent};
 ghost use Rattle.om_commands.specs.Replay.{IsNoMatterOfContent, IsReplayError, IsReplayText};
 
@@ -29,7 +29,7 @@ pub fn replay<S: Stable, W: Write>(
         × Appends (W.contents writer.old) (W.contents writer.new) text) }
     ensures error { IsCleanCall S.is_clean S.IsSound store.old store.new
         → IfErr result (IsReplayError (S.content store.old) interval) }
-    ensures only { IsCleanCall S.is_clean S.IsSound store.old store.new → CanReplay Anyone (S.content store.old) interval
+    ensures only { IsCleanCall S.is_clean S.IsSound store.old store.new → CanReplay anyone (S.content store.old) interval
         → IfErr result IsNoMatterOfContent }
     ensures silent { IfErr result (λ error. IsSilent error (Keeps (W.contents writer.old) (W.contents writer.new))) }
     ensures same { IsCleanCall S.is_clean S.IsSound store.old store.new → S.content store.new ≡ S.content store.old }
@@ -45,7 +45,7 @@ fn replayed<S: Stable>(alloc: Global, store: &mut S, interval: u32) -> Result<St
         → IfOk result (λ text. IsReplayText (S.content store.old) interval (string_bytes text)) }
     ensures error { IsCleanCall S.is_clean S.IsSound store.old store.new
         → IfErr result (IsReplayError (S.content store.old) interval) }
-    ensures only { IsCleanCall S.is_clean S.IsSound store.old store.new → CanReplay Anyone (S.content store.old) interval
+    ensures only { IsCleanCall S.is_clean S.IsSound store.old store.new → CanReplay anyone (S.content store.old) interval
         → IfErr result IsNoMatterOfContent }
     ensures silent { result ≢ Err CommandError.CannotWrite }
     ensures same { IsCleanCall S.is_clean S.IsSound store.old store.new → S.content store.new ≡ S.content store.old }

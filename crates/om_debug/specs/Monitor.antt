@@ -7,7 +7,7 @@ use Rattle.om_requests.specs.declared.request.Command.TheVariants as commands
 use Rattle.om_world.specs.declared.event.Event.{Event}
 use Rattle.om_world.specs.declared.event.Event.TheVariants as events
 use Rattle.om_timeline.specs.Timeline.{TimelineState, machine_here}
-use Rattle.om_debug.specs.declared.debugger.Told.{Told}
+use Rattle.om_debug.specs.declared.debugger.Reply.{Reply}
 use Rattle.om_debug.specs.declared.monitor.TheConstants.{EVENTS_BEFORE, EVENTS_FROM, HELP}
 use Rattle.om_debug.specs.Standing.{standing_text}
 use Rattle.om_debug.specs.Stops.{DebugState, with_timeline}
@@ -77,11 +77,11 @@ abbrev pub IsAtEvent : ℕ → TimelineState → Type 0
 IsAtEvent number t = (t.turns ≡ 0) × ((t.event ≡ number) ⊎ ((length t.events ≤ t.event) × (t.event < number)))
 
 -- a text is told as the bytes that it is, in hexadecimal
-abbrev pub IsSaid : List ℕ → Told → Type 0
+abbrev pub IsSaid : List ℕ → Reply → Type 0
 IsSaid text told = text_of told ≡ encode_lower text
 
 -- what a command is told, and where it leads: all but one lead nowhere
-abbrev pub IsCommanded : Command → DebugState → Told → DebugState → Type 0
+abbrev pub IsCommanded : Command → DebugState → Reply → DebugState → Type 0
 IsCommanded commands.Where old told new = (new ≡ old) × IsSaid (where_text old) told
 IsCommanded commands.Events old told new = (new ≡ old) × IsSaid (events_text old.timeline) told
 IsCommanded (commands.Goto number) old told new = (new ≡ with_timeline old new.timeline) × IsAtEvent number new.timeline × IsSaid (where_text new) told

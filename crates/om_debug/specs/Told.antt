@@ -10,8 +10,8 @@ use Rattle.om_requests.specs.declared.request.Watch.{Watch}
 use Rattle.om_requests.specs.declared.request.Watched.{Watched}
 use Rattle.om_requests.specs.declared.request.Watched.TheVariants.{Writes, Reads, Both}
 use Rattle.om_timeline.specs.Timeline.{machine_here}
-use Rattle.om_debug.specs.declared.debugger.Told.{Told}
-use Rattle.om_debug.specs.declared.debugger.Told.TheVariants.{Text, Last}
+use Rattle.om_debug.specs.declared.debugger.Reply.{Reply}
+use Rattle.om_debug.specs.declared.debugger.Reply.TheVariants.{Text, Last}
 use Rattle.om_debug.specs.declared.stop.Stop.TheVariants.{Here}
 use Rattle.om_debug.specs.Stops.{DebugState, stop_text}
 
@@ -41,12 +41,12 @@ asked d requests.Write = error_text
 asked d requests.Malformed = error_text
 asked d _ = []
 
-abbrev pub text_of : Told → List ℕ
+abbrev pub text_of : Reply → List ℕ
 text_of (Text bytes) = bytes.items
 text_of (Last bytes) = bytes.items
 
 -- it is over behind the answer
-abbrev pub is_last : Told → Bool
+abbrev pub is_last : Reply → Bool
 is_last (Text bytes) = false
 is_last (Last bytes) = true
 

@@ -60,7 +60,7 @@ impl Model for Debugger {
 
 /// What is answered to a packet.
 #[derive(Debug, Drop)]
-pub enum Told {
+pub enum Reply {
     /// This text, and the next packet is awaited.
     Text(Vec<u8>),
     /// This text, and it is over.
@@ -97,7 +97,7 @@ impl Debugger {
     /// Answers a packet of these bytes: what is asked, or where the process stands after it moved. While it goes on the reader is asked
     /// whether a stop is wished. Refused where memory ran out, or the record is not played on: then the process may have moved, and
     /// nothing else has changed.
-    pub fn answer<R: Wish>(&mut self, packet: &[u8], reader: &mut R) -> Result<Told, PlayFault>
+    pub fn answer<R: Wish>(&mut self, packet: &[u8], reader: &mut R) -> Result<Reply, PlayFault>
         ensures answered { IfOk result (λ told. IsAnswered (request_of packet.now) self.old told self.new) }
         ensures last { IfOk result (λ told. is_last told ≡ is_leaving (request_of packet.now)) }
         ensures moved { IsMoved self.old.timeline self.new.timeline }
@@ -108,7 +108,7 @@ impl Debugger {
         self.answer_to(request, reader)
     }
 
-    fn answer_to<R: Wish>(&mut self, request: Request, reader: &mut R) -> Result<Told, PlayFault>
+    fn answer_to<R: Wish>(&mut self, request: Request, reader: &mut R) -> Result<Reply, PlayFault>
         ensures answered { IfOk result (λ told. IsAnswered request self.old told self.new) }
         ensures last { IfOk result (λ told. is_last told ≡ is_leaving request) }
         ensures moved { IsMoved self.old.timeline self.new.timeline }
@@ -149,13 +149,13 @@ impl Debugger {
                 Ok(done)
             }
             Request::Monitor(command) => self.commanded(command),
-            Request::Detach => Ok(Told::Last(bytes(self.alloc, "OK")?)),
-            Request::Kill => Ok(Told::Last(bytes(self.alloc, "OK")?)),
-            asked => Ok(Told::Text(self.asked(asked)?)),
+            Request::Detach => Ok(Reply::Last(bytes(self.alloc, "OK")?)),
+            Request::Kill => Ok(Reply::Last(bytes(self.alloc, "OK")?)),
+            asked => Ok(Reply::Text(self.asked(asked)?)),
         }
     }
 
-    fn commanded(&mut self, command: Command) -> Result<Told, PlayFault>
+    fn commanded(&mut self, command: Command) -> Result<Reply, PlayFault>
         ensures last { IfOk result (λ told. is_last told ≡ false) }
         ensures moved { IsMoved self.old.timeline self.new.timeline }
         ensures same { self.new ≡ with_timeline self.old self.new.timeline }
@@ -176,7 +176,7 @@ impl Debugger {
     }
 
     // Where time and the process stand, as it is told.
-    fn said_where(&self) -> Result<Told, PlayFault>
+    fn said_where(&self) -> Result<Reply, PlayFault>
         ensures said { IfOk result (λ told. IsSaid (where_text self.now) told) }
         ensures last { IfOk result (λ told. is_last told ≡ false) }
     {
@@ -185,33 +185,33 @@ impl Debugger {
     }
 
     // A text for the user, whose bytes are told in hexadecimal.
-    fn said(&self, text: &str) -> Result<Told, AllocError>
+    fn said(&self, text: &str) -> Result<Reply, AllocError>
         ensures said { IfOk result (λ told. IsSaid text.now told) }
         ensures last { IfOk result (λ told. is_last told ≡ false) }
     {
-        Ok(Told::Text(hex::encode(self.alloc, text.as_bytes())?.into_bytes()))
+        Ok(Reply::Text(hex::encode(self.alloc, text.as_bytes())?.into_bytes()))
     }
 
     /// Tells that the process stands where it stands, as one who asked for a stop is told. Refused only where memory ran out.
-    pub fn interrupted(&self) -> Result<Told, AllocError>
+    pub fn interrupted(&self) -> Result<Reply, AllocError>
         ensures paused { IfOk result (λ told. text_of told ≡ stop_text Stop.Paused) }
         ensures last { IfOk result (λ told. is_last told ≡ false) }
     {
         self.stopped(Stop::Paused)
     }
 
-    fn text(&self, text: &str) -> Result<Told, AllocError>
+    fn text(&self, text: &str) -> Result<Reply, AllocError>
         ensures text { IfOk result (λ told. text_of told ≡ text.now) }
         ensures last { IfOk result (λ told. is_last told ≡ false) }
     {
-        Ok(Told::Text(bytes(self.alloc, text)?))
+        Ok(Reply::Text(bytes(self.alloc, text)?))
     }
 
-    fn stopped(&self, stop: Stop) -> Result<Told, AllocError>
+    fn stopped(&self, stop: Stop) -> Result<Reply, AllocError>
         ensures text { IfOk result (λ told. text_of told ≡ stop_text stop) }
         ensures last { IfOk result (λ told. is_last told ≡ false) }
     {
-        Ok(Told::Text(stop_text(self.alloc, stop)?.into_bytes()))
+        Ok(Reply::Text(stop_text(self.alloc, stop)?.into_bytes()))
     }
 
     // The answer to what is only asked: for what moves, nothing.

@@ -5,7 +5,7 @@
 //! it), `moving` (forward to a stop, and back to one), `standing` (where it stands, for one who shows several), `monitor` (commands of the user).
 #![tactic(auto)]
 
-pub use debugger::{Debugger, Told};
+pub use debugger::{Debugger, Reply};
 pub use monitor::HELP;
 pub use stop::Stop;
 pub use wish::Wish;

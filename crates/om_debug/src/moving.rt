@@ -4,7 +4,7 @@
 ghost use Rattle.std.specs.Prelude.{◌≡◌, ◌↔◌, ◌+◌, ◌-◌, ◌<◌, ◌≤◌, IfOk, IfSome, MatchOption, None, OnOk, false, length, true};
 ghost use Rattle.om_debug.specs.Moments.{next_at};
 ghost use Rattle.om_debug.specs.Monitor.{IsAtEvent};
-ghost use Rattle.om_timeline.specs.declared.tape.Look.{Look};
+ghost use Rattle.om_timeline.specs.declared.tape.Peek.{Peek};
 ghost use Rattle.om_timeline.specs.Deeds.{turns_at};
 ghost use Rattle.om_debug.specs.Stops.{IsBefore, IsBehind, IsFrom, IsLast, IsLookedBack, IsMoved, IsPartBack, IsPassed, IsQuiet, IsQuietRest, IsRunBack, IsStepBack, IsStillBefore, IsWithin, StandsFor, breaks_here, has_stops, standing, stop_here, watch_here, with_timeline};
 ghost use Rattle.om_debug.specs.steps.Scanning.{IsOver, IsPart};
@@ -17,7 +17,7 @@ use crate::watching::watch_met;
 use crate::wish::Wish;
 use om_process::Status;
 use om_requests::{Resume, Watch};
-use om_timeline::{Deed, Look, PlayFault, Position};
+use om_timeline::{Deed, Peek, PlayFault, Position};
 
 // How many pieces of a way are gone at most without a stop.
 const MOST_PIECES: u64 = u64::MAX;
@@ -104,12 +104,12 @@ impl Debugger {
     {
         let _ = self.timeline.position();
         match self.look()? {
-            Look::Next => {
+            Peek::Next => {
                 let stop = self.go_on(how)?;
                 Ok(stop)
             }
-            Look::NotYet => Ok(None),
-            Look::End => Ok(Some(Stop::End)),
+            Peek::NotYet => Ok(None),
+            Peek::End => Ok(Some(Stop::End)),
         }
     }
 
@@ -136,13 +136,13 @@ impl Debugger {
     /// Plays the record up to the next event and over it, or a part of it, and tells which. The process stays. Refused where memory ran
     /// out, or the record is not played on.
     #[tactic(auto, using(crate::proofs::Moved::moved_with, crate::proofs::Moved::moved_same, crate::proofs::Moved::moved_not, crate::proofs::Quiet::passed_look, crate::proofs::Quiet::end_look, crate::proofs::Quiet::within_of))]
-    pub fn look(&mut self) -> Result<Look, PlayFault>
+    pub fn look(&mut self) -> Result<Peek, PlayFault>
         ensures before { IsWithin self.old.timeline }
         ensures moved { IsMoved self.old.timeline self.new.timeline }
         ensures same { self.new ≡ with_timeline self.old self.new.timeline }
         ensures passed { OnOk result (IsPassed self.old self.new) }
         ensures within { OnOk result (IsWithin self.new.timeline) }
-        ensures end { IfOk result (λ look. look ≡ Look.End → length self.new.timeline.events ≤ self.new.timeline.event) }
+        ensures end { IfOk result (λ look. look ≡ Peek.End → length self.new.timeline.events ≤ self.new.timeline.event) }
     {
         let _ = self.timeline.position();
         let look = self.timeline.look(self.alloc)?;
@@ -591,7 +591,7 @@ impl Debugger {
             turns: 0,
         };
         self.timeline.go_to(self.alloc, last)?;
-        Ok(self.timeline.look(self.alloc)? == Look::End)
+        Ok(self.timeline.look(self.alloc)? == Peek::End)
     }
 
     // The position before what came last to the process.

@@ -4,9 +4,9 @@ use om_check::{Delivery, End, Explored, PlayFault, Scheduler, explore};
 use om_interval::{MAX_PROCESSES, Pid};
 use om_isa::Ext;
 use om_manager::Output;
-use om_process::{Image, Status};
+use om_process::{Accept, Image, Status};
 use om_stable::MemStable;
-use om_world::World;
+use om_world::{Answer, Event, World};
 use std::alloc::{AllocError, Global};
 use std::process::Abort;
 
@@ -145,15 +145,36 @@ fn add_outputs(bytes: &mut Vec<u8>, outputs: &[Output]) -> Result<(), AllocError
     Ok(())
 }
 
-// From whom process 0 received in a run, in order.
+// The frame that an event gave to process 0.
+fn given(event: Event) -> Option<usize> {
+    match event {
+        Event::Give { process, frame } if process == 0 => Some(frame),
+        _ => None,
+    }
+}
+
+// From whom process 0 received in a run, in order: it took each frame that it was given.
 fn senders(alloc: Global, run: &Explored) -> Result<Vec<u8>, AllocError> {
     let mut senders = Vec::new(alloc);
-    for entry in run.world.received() {
-        if entry.to == Pid::at(0) {
-            senders.push(entry.from.index() as u8)?;
+    for event in run.events.as_slice() {
+        if let Some(frame) = given(*event)
+            && let Some(message) = run.world.frames().get(frame)
+        {
+            senders.push(message.from.index() as u8)?;
         }
     }
     Ok(senders)
+}
+
+// How many frames were taken.
+fn taken(answers: &[Answer]) -> usize {
+    let mut count: usize = 0;
+    for answer in answers {
+        if matches!(answer, Answer::Given(Accept::Taken(_))) {
+            count = count.saturating_add(1);
+        }
+    }
+    count
 }
 
 // The run of so many processes in which these places are picked.
@@ -233,7 +254,7 @@ fn what_happened_is_told(rt: HostRuntime) {
     assert_eq!(&rt; answers.len(), run.events.len());
     let bytes = put_out(alloc, &world).expect(&rt, "memory");
     assert_eq!(&rt; bytes.as_slice(), [2, 1].as_slice());
-    assert_eq!(&rt; world.received().len(), 2);
+    assert_eq!(&rt; taken(&answers), 2);
 }
 
 // Returns what comes of a run, in a word, and of which process.

@@ -1,19 +1,19 @@
 //! The parts of a checkpoint, each written behind what was written before.
 
-ghost use Rattle.std.specs.Prelude.{◌≡◌, ◌<◌, ◌≤◌, ◌^◌, ◌++◌, ℕ, OnOk, length, map, slice_index};
+ghost use Rattle.std.specs.Prelude.{◌≡◌, ◌<◌, ◌≤◌, ◌^◌, ◌++◌, ℕ, All, OnOk, length, map, slice_index};
 ghost use Rattle.std.specs.List.{flat_map};
 ghost use Rattle.om_format.specs.steps.CheckpointBytes.{head_bytes, vector_bytes, page_bytes, memory_bytes, entry_bytes, message_bytes, output_bytes, AreWords};
 ghost use Rattle.om_format.specs.Formats.{four};
 ghost use Rattle.om_format.specs.Queues.{queue_record};
 ghost use Rattle.om_format.specs.Spelling.{numbers};
-ghost use Rattle.om_format.specs.Pages.{page_count, kept_pages};
+ghost use Rattle.om_format.specs.Pages.{page_at, page_count, kept_pages};
 ghost use Rattle.om_format.specs.Versions.{kind_of};
 ghost use Rattle.om_isa.specs.declared.memory.TheConstants.{MAX_MEMORY};
 
 use crate::checkpoint::Checkpoint;
 use crate::head::Head;
 use crate::limits::{CHECKPOINT_KIND, CHECKPOINT_KIND_M, CHECKPOINT_VERSION_2, PAGE};
-use crate::pages::{count_kept, is_kept, page_count, page_of};
+use crate::pages::page_of;
 use crate::queue::{Queue, QueueEntry};
 use om_isa::Ext;
 use std::alloc::AllocError;
@@ -76,36 +76,36 @@ fn put_page(out: &mut Vec<u8>, index: usize, page: &[u8]) -> Result<(), AllocErr
     Ok(())
 }
 
-// The pages of a memory that are not all zero.
-fn put_pages(out: &mut Vec<u8>, memory: &[u8]) -> Result<(), AllocError>
-    requires { length memory.now ≤ MAX_MEMORY }
-    ensures { OnOk result (out.new.items ≡ out.old.items ++ flat_map page_bytes (kept_pages memory.now)) }
+// The pages of a memory that have these indices.
+fn put_pages(out: &mut Vec<u8>, memory: &[u8], indices: &[u16]) -> Result<(), AllocError>
+    requires most { length memory.now ≤ MAX_MEMORY }
+    requires within { All (λ index. index < page_count (length memory.now)) indices.now }
+    ensures { OnOk result (out.new.items ≡ out.old.items ++ flat_map page_bytes (map (page_at memory.now) indices.now)) }
 {
-    for index in 0..page_count(memory.len()) {
-        let page = page_of(memory, index);
-        if is_kept(page) {
-            put_page(out, index, page)?;
-        }
+    for index in indices {
+        let page = page_of(memory, usize::from(*index));
+        put_page(out, usize::from(*index), page)?;
     }
     Ok(())
 }
 
-// The number of outputs, and the memory, of which so many pages are kept.
+// The number of outputs, and the memory, of which the pages at these indices are kept.
 pub(crate) fn put_memory(
     out: &mut Vec<u8>,
     made: u64,
     memory: &[u8],
-    kept: usize,
+    kept: &[u16],
 ) -> Result<(), AllocError>
     requires most { length memory.now ≤ MAX_MEMORY }
-    requires kept { kept ≡ length (kept_pages memory.now) }
-    requires within { kept ≤ page_count (length memory.now) }
+    requires kept { map (page_at memory.now) kept.now ≡ kept_pages memory.now }
+    requires within { All (λ index. index < page_count (length memory.now)) kept.now }
+    requires few { length kept.now ≤ page_count (length memory.now) }
     ensures { OnOk result (out.new.items ≡ out.old.items ++ memory_bytes made memory.now) }
 {
     out.extend_from_slice(&made.to_le_bytes())?;
     out.extend_from_slice(&(memory.len() as u32).to_le_bytes())?;
-    out.extend_from_slice(&(kept as u16).to_le_bytes())?;
-    put_pages(out, memory)?;
+    out.extend_from_slice(&(kept.len() as u16).to_le_bytes())?;
+    put_pages(out, memory, kept)?;
     Ok(())
 }
 

@@ -13,7 +13,7 @@ use crate::checkpoint_writing::{
     put_head, put_memory, put_outputs, put_queues, put_vectors, room_for,
 };
 use crate::limits::{RECEIPT_KIND, RECEIPT_VERSION};
-use crate::pages::count_kept;
+use crate::pages::kept_indices;
 use crate::receipt::Receipt;
 use std::alloc::{AllocError, Global};
 
@@ -51,11 +51,11 @@ fn checkpoint_bytes(alloc: Global, checkpoint: &Checkpoint) -> Result<Vec<u8>, A
     ensures lawful { IsCheckpoint (checkpoint_record checkpoint.now) }
 {
     let memory = checkpoint.memory.as_slice();
-    let kept = count_kept(memory);
-    let mut out = Vec::with_capacity(alloc, room_for(checkpoint, kept))?;
+    let kept = kept_indices(alloc, memory)?;
+    let mut out = Vec::with_capacity(alloc, room_for(checkpoint, kept.len()))?;
     put_head(&mut out, &checkpoint.head)?;
     put_vectors(&mut out, &checkpoint.head)?;
-    put_memory(&mut out, checkpoint.head.made, memory, kept)?;
+    put_memory(&mut out, checkpoint.head.made, memory, &kept)?;
     put_queues(&mut out, &checkpoint.kept)?;
     put_outputs(&mut out, &checkpoint.outputs)?;
     Ok(out)

@@ -1,10 +1,11 @@
 //! The pages of a memory.
 
-ghost use Rattle.std.specs.Prelude.{◌≡◌, ◌<◌, ◌≤◌, length};
+ghost use Rattle.std.specs.Prelude.{◌≡◌, ◌<◌, ◌≤◌, All, IfOk, length, map};
 ghost use Rattle.om_format.specs.Pages.{page_count, page_size, page_at, is_kept, kept_pages};
 ghost use Rattle.om_isa.specs.declared.memory.TheConstants.{MAX_MEMORY};
 
 use crate::limits::PAGE;
+use std::alloc::{AllocError, Global};
 
 // Returns how many pages a memory of so many bytes has.
 pub(crate) fn page_count(size: usize) -> usize
@@ -34,7 +35,7 @@ pub(crate) fn page_of(memory: &[u8], index: usize) -> &[u8]
 }
 
 // How many bytes are looked at at once.
-const WORD: usize = 8;
+const WORD: usize = 16;
 
 // Not all bytes are zero.
 pub(crate) fn is_kept(bytes: &[u8]) -> bool
@@ -54,7 +55,7 @@ pub(crate) fn is_kept(bytes: &[u8]) -> bool
 fn is_set(word: &[u8; WORD]) -> bool
     ensures { result ≡ is_kept word.now }
 {
-    u64::from_le_bytes(*word) != 0
+    u128::from_le_bytes(*word) != 0
 }
 
 // Not all bytes are zero, of those that are no word.
@@ -68,17 +69,18 @@ fn is_any_set(bytes: &[u8]) -> bool
     set
 }
 
-// Returns how many pages of a memory are kept.
-pub(crate) fn count_kept(memory: &[u8]) -> usize
+// Returns the indices of the pages of a memory that are kept.
+pub(crate) fn kept_indices(alloc: Global, memory: &[u8]) -> Result<Vec<u16>, AllocError>
     requires { length memory.now ≤ MAX_MEMORY }
-    ensures exact { result ≡ length (kept_pages memory.now) }
-    ensures within { result ≤ page_count (length memory.now) }
+    ensures kept { IfOk result (λ kept. map (page_at memory.now) kept.items ≡ kept_pages memory.now) }
+    ensures within { IfOk result (λ kept. All (λ index. index < page_count (length memory.now)) kept.items) }
+    ensures few { IfOk result (λ kept. length kept.items ≤ page_count (length memory.now)) }
 {
-    let mut count = 0;
+    let mut kept = Vec::new(alloc);
     for index in 0..page_count(memory.len()) {
         if is_kept(page_of(memory, index)) {
-            count += 1;
+            kept.push(index as u16)?;
         }
     }
-    count
+    Ok(kept)
 }

@@ -6,7 +6,7 @@ use Rattle.om_debug.specs.Stops.{DebugState, IsLookedBack, IsMoved, IsPassed, Is
 use Rattle.om_debug.specs.declared.stop.Stop.{Stop}
 use Rattle.om_debug.specs.declared.stop.Stop.TheVariants as stops
 use Rattle.om_timeline.specs.declared.fault.PlayFault.{PlayFault}
-use Rattle.om_timeline.specs.declared.tape.Look.{Look}
+use Rattle.om_timeline.specs.declared.tape.Peek.{Peek}
 use Rattle.om_debug.proofs.Moved.{moved_then}
 use Rattle.om_debug.proofs.Quiet.{passed_then}
 use Rattle.om_inferiors.specs.declared.inferior.Inferior.{Inferior}
@@ -90,12 +90,12 @@ pub ok_stands : (xs : List Inferior) (i : ℕ) (y : Inferior) (r : Result (Optio
 ok_stands xs i y (Ok stop) less stands = if_stands xs i y stop less stands
 ok_stands xs i y (Err fault) less stands = tt
 
-end_stands : (xs : List Inferior) (i : ℕ) (y : Inferior) (look : Look) → i < length xs → (look ≡ Look.End → length y.debugger.timeline.events ≤ y.debugger.timeline.event)
-    → look ≡ Look.End → StandsAt (set xs i y) i stops.End
+end_stands : (xs : List Inferior) (i : ℕ) (y : Inferior) (look : Peek) → i < length xs → (look ≡ Peek.End → length y.debugger.timeline.events ≤ y.debugger.timeline.event)
+    → look ≡ Peek.End → StandsAt (set xs i y) i stops.End
 end_stands xs i y look less end = λ is. stands_at xs i y stops.End less (end is)
 
-pub ok_end : (xs : List Inferior) (i : ℕ) (y : Inferior) (r : Result Look PlayFault) → i < length xs → IfOk r (λ look. look ≡ Look.End → length y.debugger.timeline.events ≤ y.debugger.timeline.event)
-    → IfOk r (λ look. look ≡ Look.End → StandsAt (set xs i y) i stops.End)
+pub ok_end : (xs : List Inferior) (i : ℕ) (y : Inferior) (r : Result Peek PlayFault) → i < length xs → IfOk r (λ look. look ≡ Peek.End → length y.debugger.timeline.events ≤ y.debugger.timeline.event)
+    → IfOk r (λ look. look ≡ Peek.End → StandsAt (set xs i y) i stops.End)
 ok_end xs i y (Ok look) less end = end_stands xs i y look less end
 ok_end xs i y (Err fault) less end = tt
 

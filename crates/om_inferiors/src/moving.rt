@@ -9,7 +9,7 @@ ghost use Rattle.om_inferiors.specs.steps.Lasting.{IsBehindAt, IsLastUpTo, IsLat
 use crate::inferior::Inferior;
 use om_debug::{Stop, Wish};
 use om_requests::Resume;
-use om_timeline::{Look, PlayFault, Position};
+use om_timeline::{Peek, PlayFault, Position};
 
 // How many pieces of a way are gone at most without a stop.
 const MOST_PIECES: u64 = u64::MAX;
@@ -55,10 +55,10 @@ fn go_on_at(all: &mut [Inferior], place: usize, how: Resume) -> Result<Option<St
     inferior.debugger.go_on(how)
 }
 
-fn look_at(all: &mut [Inferior], place: usize) -> Result<Look, PlayFault>
+fn look_at(all: &mut [Inferior], place: usize) -> Result<Peek, PlayFault>
     requires { place < length all.old }
     ensures on { OnOk result (AreOn all.old all.new) }
-    ensures end { IfOk result (λ look. look ≡ Look.End → StandsAt all.new place Stop.End) }
+    ensures end { IfOk result (λ look. look ≡ Peek.End → StandsAt all.new place Stop.End) }
 {
     let inferior = &mut all[place];
     inferior.debugger.look()
@@ -66,19 +66,19 @@ fn look_at(all: &mut [Inferior], place: usize) -> Result<Look, PlayFault>
 
 // Plays up to an event and over it for all that stand before it.
 #[tactic(auto, using(crate::proofs::Each::are_on_same, crate::proofs::Each::are_on_then, crate::proofs::Each::length_on))]
-fn look_all(all: &mut [Inferior], event: usize) -> Result<Look, PlayFault>
+fn look_all(all: &mut [Inferior], event: usize) -> Result<Peek, PlayFault>
     ensures { OnOk result (AreOn all.old all.new) }
 {
     for place in 0..all.len() {
         if all[place].debugger.position().event == event {
             match look_at(all, place)? {
-                Look::Next => {}
-                Look::NotYet => return Ok(Look::NotYet),
-                Look::End => return Ok(Look::End),
+                Peek::Next => {}
+                Peek::NotYet => return Ok(Peek::NotYet),
+                Peek::End => return Ok(Peek::End),
             }
         }
     }
-    Ok(Look::Next)
+    Ok(Peek::Next)
 }
 
 // Goes on with one until it stops or the event is over, or for some pieces.
@@ -135,9 +135,9 @@ fn piece(all: &mut [Inferior], who: usize, how: Resume) -> Result<Option<Stopped
     let event = first_event(all);
     if all[who].debugger.position().event == event {
         match look_at(all, who)? {
-            Look::Next => {}
-            Look::NotYet => return Ok(None),
-            Look::End => {
+            Peek::Next => {}
+            Peek::NotYet => return Ok(None),
+            Peek::End => {
                 return Ok(Some(Stopped {
                     place: who,
                     stop: Stop::End,
@@ -145,7 +145,7 @@ fn piece(all: &mut [Inferior], who: usize, how: Resume) -> Result<Option<Stopped
             }
         }
     }
-    if look_all(all, event)? != Look::Next {
+    if look_all(all, event)? != Peek::Next {
         return Ok(None);
     }
     step_event(all, event, who, how)

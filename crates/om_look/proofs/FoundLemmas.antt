@@ -4,7 +4,7 @@ use Rattle.std.specs.Prelude.{Option, None, Some, IsSome}
 use Rattle.std.specs.FinMap.{get}
 use Rattle.std.proofs.lemmas.List.{append-nil, reverse-append}
 use Rattle.om_stable.specs.Content.{Content, IsFree}
-use Rattle.om_process.specs.Stored.{Anyone, CanReplay}
+use Rattle.om_process.specs.Stored.{anyone, CanReplay}
 use Rattle.om_process.specs.declared.limits.TheConstants.{LAST_INTERVAL}
 use Rattle.om_look.specs.steps.Ranges.{up_to}
 use Rattle.om_look.specs.declared.gathering.Found.{Found}
@@ -40,7 +40,7 @@ no_more held to fs a free = record {
   covered = λ y low high can. either y high can (le_cases y to);
 }
   where
-    either : (y : ℕ) → y ≤ LAST_INTERVAL → CanReplay Anyone held y → (y ≤ to) ⊎ (to + 1 ≤ y) → LiesBehindOne fs y
+    either : (y : ℕ) → y ≤ LAST_INTERVAL → CanReplay anyone held y → (y ≤ to) ⊎ (to + 1 ≤ y) → LiesBehindOne fs y
     either y high can (inl le) =
         let e = can.3.begins.effective in
         let within : can.3.checkpoint.head.interval ≤ y = e.within in
@@ -65,18 +65,18 @@ one_more held to row f fs a is =
     low : (y : ℕ) {x z : ℕ} → x ≤ y → x ≡ z → z ≤ y
     low y le same = omega arith
 
-    replays : (y : ℕ) → LiesBehindOne (f ∷ fs) y → CanReplay Anyone held y
+    replays : (y : ℕ) → LiesBehindOne (f ∷ fs) y → CanReplay anyone held y
     replays y (inl here) = is.stops.replayed y (low y here.0 is.interval) here.1
     replays y (inr later) = a.replayed y later
 
     lies : (y : ℕ) → row.0 ≤ y → y < f.stop → f.interval ≡ row.0 → LiesBehind y f
     lies y le lt same = (omega arith, lt)
 
-    within : (y : ℕ) → row.0 ≤ y → y ≤ to → CanReplay Anyone held y → (f.stop ≤ y) ⊎ (y < f.stop) → LiesBehindOne (f ∷ fs) y
+    within : (y : ℕ) → row.0 ≤ y → y ≤ to → CanReplay anyone held y → (f.stop ≤ y) ⊎ (y < f.stop) → LiesBehindOne (f ∷ fs) y
     within y from le can (inl beyond) = absurd (is.stops.no_more y beyond le can)
     within y from le can (inr lt) = inl (lies y from lt is.interval)
 
-    either : (y : ℕ) → row.0 ≤ y → y ≤ LAST_INTERVAL → CanReplay Anyone held y → (y ≤ to) ⊎ (to + 1 ≤ y) → LiesBehindOne (f ∷ fs) y
+    either : (y : ℕ) → row.0 ≤ y → y ≤ LAST_INTERVAL → CanReplay anyone held y → (y ≤ to) ⊎ (to + 1 ≤ y) → LiesBehindOne (f ∷ fs) y
     either y from high can (inl le) = within y from le can (under f.stop y)
     either y from high can (inr lt) = inr (a.covered y lt high can)
 

@@ -9,7 +9,7 @@ use Rattle.om_process.specs.declared.replay.ReplayFault.{ReplayFault}
 use Rattle.om_process.specs.declared.replay.ReplayFault.TheVariants.{NoCheckpoint, Damaged, MissingReceipt, Mismatch, Fault, Memory}
 use Rattle.om_process.specs.Process.{Process, delivered}
 use Rattle.om_process.specs.Replays.{Replayed, process_of, received_of}
-use Rattle.om_process.specs.Stored.{Anyone, AreReceiptsAfter, BeginsWith, CanReplay, ComesTo, IsNoMatterOfContent, Refuses, StandsAfter}
+use Rattle.om_process.specs.Stored.{anyone, AreReceiptsAfter, BeginsWith, CanReplay, ComesTo, IsNoMatterOfContent, Refuses, StandsAfter}
 use Rattle.om_process.proofs.Exactly.{only_refused}
 use Rattle.om_look.specs.declared.fault.LookFault.{LookFault}
 use Rattle.om_look.specs.steps.Stops.{StopsAt}
@@ -28,14 +28,14 @@ one_effective held x b c first second =
     let high : c ≤ b = first.greatest c second.within second.has in
     omega arith
 
-begins_below : (held : Content) (x z : ℕ) (k : CheckpointRecord) → BeginsWith Anyone held x k → k.head.interval ≤ z → z ≤ x → BeginsWith Anyone held z k
+begins_below : (held : Content) (x z : ℕ) (k : CheckpointRecord) → BeginsWith anyone held x k → k.head.interval ≤ z → z ≤ x → BeginsWith anyone held z k
 begins_below held x z k begins low high = record {
   effective = effective_below held.checkpoints x z k.head.interval begins.effective low high;
   stored = begins.stored;
   meant = tt;
 }
 
-stands_below : (held : Content) (x y z own n : ℕ) (t : Process) → StandsAfter Anyone held x y own n t → y ≤ z → z ≤ x → StandsAfter Anyone held z y own n t
+stands_below : (held : Content) (x y z own n : ℕ) (t : Process) → StandsAfter anyone held x y own n t → y ≤ z → z ≤ x → StandsAfter anyone held z y own n t
 stands_below held x y z own n t s low high =
     let at : y ≡ s.checkpoint.head.interval + length s.receipts = s.last in
     let above : s.checkpoint.head.interval ≤ z = omega arith in
@@ -70,7 +70,7 @@ front own n (suc k) held after (r ∷ rs) s t stored replayed le =
     )
 
 -- what is replayed to an interval is replayed to each before it, from the checkpoint on
-can_below : (held : Content) (x w y own n : ℕ) (t : Process) (s : StandsAfter Anyone held x w own n t) → w ≤ x → s.checkpoint.head.interval ≤ y → y ≤ w → CanReplay Anyone held y
+can_below : (held : Content) (x w y own n : ℕ) (t : Process) (s : StandsAfter anyone held x w own n t) → w ≤ x → s.checkpoint.head.interval ≤ y → y ≤ w → CanReplay anyone held y
 can_below held x w y own n t s le low high =
     let at : w ≡ s.checkpoint.head.interval + length s.receipts = s.last in
     let part = front own n (y - s.checkpoint.head.interval) held.receipts s.checkpoint.head.interval s.receipts (process_of s.checkpoint) t s.stored s.replayed (omega arith) in
@@ -92,7 +92,7 @@ can_below held x w y own n t s le low high =
     )
 
 -- ---- what is replayed to x stops behind it
-pub stops_behind : (held : Content) (x c : ℕ) → IsEffective held.checkpoints x c → CanReplay Anyone held x → StopsAt held c x (x + 1)
+pub stops_behind : (held : Content) (x c : ℕ) → IsEffective held.checkpoints x c → CanReplay anyone held x → StopsAt held c x (x + 1)
 stops_behind held x c e can =
     let same = one_effective held.checkpoints x can.3.checkpoint.head.interval c can.3.begins.effective e in
     let within : c ≤ x = e.within in
@@ -104,21 +104,21 @@ stops_behind held x c e can =
     }
 
 -- ---- what is refused at a receipt stops there
-before_at : (held : Content) (x y own n : ℕ) (s : Process) (c : ℕ) → IsEffective held.checkpoints x c → ComesTo Anyone held x y own n s → (z : ℕ) → c ≤ z → z < y → CanReplay Anyone held z
+before_at : (held : Content) (x y own n : ℕ) (s : Process) (c : ℕ) → IsEffective held.checkpoints x c → ComesTo anyone held x y own n s → (z : ℕ) → c ≤ z → z < y → CanReplay anyone held z
 before_at held x y own n s c e comes z low high =
     let some : 0 < y = comes.0 in
     let within : y ≤ x = comes.1 in
     let same = one_effective held.checkpoints x comes.2.checkpoint.head.interval c comes.2.begins.effective e in
     can_below held x (y - 1) z own n s comes.2 (omega arith) (omega arith) (omega arith)
 
-above_checkpoint : (held : Content) (x y own n : ℕ) (s : Process) (c : ℕ) → IsEffective held.checkpoints x c → ComesTo Anyone held x y own n s → c < y
+above_checkpoint : (held : Content) (x y own n : ℕ) (s : Process) (c : ℕ) → IsEffective held.checkpoints x c → ComesTo anyone held x y own n s → c < y
 above_checkpoint held x y own n s c e comes =
     let some : 0 < y = comes.0 in
     let at : y - 1 ≡ comes.2.checkpoint.head.interval + length comes.2.receipts = comes.2.last in
     let same = one_effective held.checkpoints x comes.2.checkpoint.head.interval c comes.2.begins.effective e in
     omega arith
 
-comes_below : (held : Content) (x y z own n : ℕ) (s : Process) → ComesTo Anyone held x y own n s → y ≤ z → z ≤ x → ComesTo Anyone held z y own n s
+comes_below : (held : Content) (x y z own n : ℕ) (s : Process) → ComesTo anyone held x y own n s → y ≤ z → z ≤ x → ComesTo anyone held z y own n s
 comes_below held x y z own n s comes low high =
     let some : 0 < y = comes.0 in
     (some, low, stands_below held x (y - 1) z own n s comes.2 (omega arith) high)
@@ -136,7 +136,7 @@ is_some_none None some none = cc
 is_some_none (Some bytes) some none = cc
 
 -- a stop at a receipt up to which all is replayed, and behind which nothing is
-stops_there : (held : Content) (x y own n : ℕ) (s : Process) (c : ℕ) → IsEffective held.checkpoints x c → ComesTo Anyone held x y own n s → ((z : ℕ) → y ≤ z → z ≤ x → CanReplay Anyone held z → ⊥) → StopsAt held c x y
+stops_there : (held : Content) (x y own n : ℕ) (s : Process) (c : ℕ) → IsEffective held.checkpoints x c → ComesTo anyone held x y own n s → ((z : ℕ) → y ≤ z → z ≤ x → CanReplay anyone held z → ⊥) → StopsAt held c x y
 stops_there held x y own n s c e comes never =
     let above : c < y = above_checkpoint held x y own n s c e comes in
     let within : y ≤ x = comes.1 in
@@ -147,7 +147,7 @@ stops_there held x y own n s c e comes never =
       no_more = never;
     }
 
-pub stops_refused : (held : Content) (x c : ℕ) (fault : ReplayFault) (stop : ℕ) → IsEffective held.checkpoints x c → NoneMissing held c x ⊎ ((y : ℕ) → fault ≡ MissingReceipt y → ⊥) → Refuses Anyone held x fault → stop_told fault ≡ Ok stop → StopsAt held c x stop
+pub stops_refused : (held : Content) (x c : ℕ) (fault : ReplayFault) (stop : ℕ) → IsEffective held.checkpoints x c → NoneMissing held c x ⊎ ((y : ℕ) → fault ≡ MissingReceipt y → ⊥) → Refuses anyone held x fault → stop_told fault ≡ Ok stop → StopsAt held c x stop
 stops_refused held x c NoCheckpoint stop e all why at =
     let within : c ≤ x = e.within in
     absurd (is_some_none (get held.checkpoints c) e.has (why c (omega arith) (omega arith)))
@@ -160,12 +160,12 @@ stops_refused held x c (Damaged y) stop e all (inl why) at =
       within = omega arith;
       replayed = λ z low high. absurd (omega arith);
       no_more = λ z low high can. no_damage y
-          (only_refused Anyone held z (Damaged y) (inl (record { effective = effective_below held.checkpoints x z y why.effective (omega arith) high; damaged = why.damaged })) can);
+          (only_refused anyone held z (Damaged y) (inl (record { effective = effective_below held.checkpoints x z y why.effective (omega arith) high; damaged = why.damaged })) can);
     }
 stops_refused held x c (Damaged y) stop e all (inr why) at =
     let here : y ≡ stop = cc in
     subst (StopsAt held c x) here (stops_there held x y why.0 why.1 why.2 c e why.3
-    (λ z low high can. no_damage y (only_refused Anyone held z (Damaged y) (inr (why.0, why.1, why.2, comes_below held x y z why.0 why.1 why.2 why.3 low high, why.4)) can)))
+    (λ z low high can. no_damage y (only_refused anyone held z (Damaged y) (inr (why.0, why.1, why.2, comes_below held x y z why.0 why.1 why.2 why.3 low high, why.4)) can)))
 stops_refused held x c (MissingReceipt y) stop e (inl all) why at =
     let same = one_effective held.checkpoints x c why.checkpoint.head.interval e why.begins.effective in
     let above : why.checkpoint.head.interval < y = why.above in
@@ -174,24 +174,24 @@ stops_refused held x c (MissingReceipt y) stop e (inr never) why at = absurd (ne
 stops_refused held x c (Mismatch y) stop e all why at =
     let here : y ≡ stop = cc in
     subst (StopsAt held c x) here (stops_there held x y why.0 why.1 why.2 c e why.3
-    (λ z low high can. no_mismatch y (only_refused Anyone held z (Mismatch y) (why.0, why.1, why.2, comes_below held x y z why.0 why.1 why.2 why.3 low high, why.4, why.5, why.6) can)))
+    (λ z low high can. no_mismatch y (only_refused anyone held z (Mismatch y) (why.0, why.1, why.2, comes_below held x y z why.0 why.1 why.2 why.3 low high, why.4, why.5, why.6) can)))
 stops_refused held x c Fault stop e all why at = cc
 stops_refused held x c Memory stop e all why at = cc
 
 -- ---- where a receipt is missing, what holds below it
-pub missing_above : (held : Content) (x c y : ℕ) → IsEffective held.checkpoints x c → Refuses Anyone held x (MissingReceipt y) → c < y
+pub missing_above : (held : Content) (x c y : ℕ) → IsEffective held.checkpoints x c → Refuses anyone held x (MissingReceipt y) → c < y
 missing_above held x c y e why =
     let same = one_effective held.checkpoints x c why.checkpoint.head.interval e why.begins.effective in
     let above : why.checkpoint.head.interval < y = why.above in
     omega arith
 
-pub missing_effective : (held : Content) (x c y : ℕ) → IsEffective held.checkpoints x c → Refuses Anyone held x (MissingReceipt y) → IsEffective held.checkpoints (y - 1) c
+pub missing_effective : (held : Content) (x c y : ℕ) → IsEffective held.checkpoints x c → Refuses anyone held x (MissingReceipt y) → IsEffective held.checkpoints (y - 1) c
 missing_effective held x c y e why =
     let above = missing_above held x c y e why in
     let within : y ≤ x = why.within in
     effective_below held.checkpoints x (y - 1) c e (omega arith) (omega arith)
 
-pub none_missing : (held : Content) (x c y : ℕ) → IsEffective held.checkpoints x c → Refuses Anyone held x (MissingReceipt y) → NoneMissing held c (y - 1)
+pub none_missing : (held : Content) (x c y : ℕ) → IsEffective held.checkpoints x c → Refuses anyone held x (MissingReceipt y) → NoneMissing held c (y - 1)
 none_missing held x c y e why z low high =
     let same = one_effective held.checkpoints x c why.checkpoint.head.interval e why.begins.effective in
     let above : why.checkpoint.head.interval < y = why.above in
@@ -200,7 +200,7 @@ none_missing held x c y e why z low high =
 trans : {a b d : ℕ} → a ≤ b → b ≤ d → a ≤ d
 trans p q = omega arith
 
-pub stops_missing : (held : Content) (x c y stop : ℕ) → IsEffective held.checkpoints x c → Refuses Anyone held x (MissingReceipt y) → StopsAt held c (y - 1) stop → StopsAt held c x stop
+pub stops_missing : (held : Content) (x c y stop : ℕ) → IsEffective held.checkpoints x c → Refuses anyone held x (MissingReceipt y) → StopsAt held c (y - 1) stop → StopsAt held c x stop
 stops_missing held x c y stop e why below =
     let above : c < y = missing_above held x c y e why in
     let within : y ≤ x = why.within in
@@ -216,7 +216,7 @@ stops_missing held x c y stop e why below =
     cases : (a b : ℕ) → (a ≤ b) ⊎ (b < a)
     cases a b = grind arith
 
-    either : (z : ℕ) → z ≤ x → CanReplay Anyone held z → (z ≤ y - 1) ⊎ (y - 1 < z) → stop ≤ z → ⊥
+    either : (z : ℕ) → z ≤ x → CanReplay anyone held z → (z ≤ y - 1) ⊎ (y - 1 < z) → stop ≤ z → ⊥
     either z to can (inl le) from = below.no_more z from le can
     either z to can (inr lt) from =
         let effective = can.3.begins.effective in
@@ -225,6 +225,6 @@ stops_missing held x c y stop e why below =
         is_some_none (get held.receipts y) (can.3.all_there y (omega arith) (omega arith)) why.none
 
 -- what a refusal tells
-pub told_stops : (held : Content) (x c : ℕ) (fault : ReplayFault) (outcome : Result ℕ LookFault) → IsEffective held.checkpoints x c → NoneMissing held c x ⊎ ((y : ℕ) → fault ≡ MissingReceipt y → ⊥) → Refuses Anyone held x fault → outcome ≡ stop_told fault → IfOk outcome (StopsAt held c x)
+pub told_stops : (held : Content) (x c : ℕ) (fault : ReplayFault) (outcome : Result ℕ LookFault) → IsEffective held.checkpoints x c → NoneMissing held c x ⊎ ((y : ℕ) → fault ≡ MissingReceipt y → ⊥) → Refuses anyone held x fault → outcome ≡ stop_told fault → IfOk outcome (StopsAt held c x)
 told_stops held x c reason (Ok stop) e all why at = stops_refused held x c reason stop e all why (sym at)
 told_stops held x c reason (Err error) e all why at = tt

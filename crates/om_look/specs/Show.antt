@@ -2,7 +2,7 @@
 use Rattle.std.specs.Prelude.{◌≡◌, ℕ, ◌≤◌, List, ◌++◌, filter, nat_le}
 use Rattle.std.specs.FinMap.{entries}
 use Rattle.om_stable.specs.Content.{Content, between}
-use Rattle.om_process.specs.Stored.{Anyone, CanReplay}
+use Rattle.om_process.specs.Stored.{anyone, CanReplay}
 use Rattle.om_process.specs.declared.limits.TheConstants.{LAST_INTERVAL}
 use Rattle.om_look.specs.Lines.{AreLines, IsCheckpointLine, IsReceiptLine}
 use Rattle.om_look.specs.Spans.{AreApart, IsCovered, spans_text}
@@ -11,8 +11,8 @@ use Rattle.om_look.specs.declared.spans.Span.{Span}
 -- the ranges are those of the intervals to which the content can be replayed, each as long as can be
 pub record AreReplayable (held : Content) (spans : List Span) : Type 0 where
   pub apart : AreApart 0 spans
-  pub replayed : (y : ℕ) → IsCovered spans y → CanReplay Anyone held y
-  pub covered : (y : ℕ) → y ≤ LAST_INTERVAL → CanReplay Anyone held y → IsCovered spans y
+  pub replayed : (y : ℕ) → IsCovered spans y → CanReplay anyone held y
+  pub covered : (y : ℕ) → y ≤ LAST_INTERVAL → CanReplay anyone held y → IsCovered spans y
 
 -- a line for each checkpoint, for each receipt (the first interval that one begins is 1), and for each range of intervals to
 -- which the content can be replayed

@@ -9,7 +9,7 @@ use Rattle.om_stable.specs.declared.error.StoreError.{StoreError}
 use Rattle.om_stable.specs.declared.error.StoreError.TheVariants.{Fault, Present}
 use Rattle.om_process.specs.Accepts.{Answers, taken}
 use Rattle.om_process.specs.Core.{CoreState, CoreTurns, cluster_size, settled, with_now, with_pending, RunsTo}
-use Rattle.om_process.specs.Stored.{CanReplay, IsNoMatterOfContent, IsReplay, TheProcess}
+use Rattle.om_process.specs.Stored.{CanReplay, IsNoMatterOfContent, IsReplay, the_process}
 use Rattle.om_process.specs.Stores.{HasGainedCheckpoint, HasGainedFirst, HasGainedLog, checkpointed, first_logged, flushed, flushed_first}
 use Rattle.om_process.specs.Trims.{trimmed}
 use Rattle.om_process.specs.declared.accept.Accept.{Accept}
@@ -161,7 +161,7 @@ pub record HasDeclared {S : Type 0} (before : ManagerState) (pid : ℕ) (old : M
 abbrev pub IsRolledBack : Down → Verdict → Result CoreState ReplayFault → Content → Content → Type 0
 IsRolledBack who verdict (Ok core) before after = IsReplay before verdict.r core × (after ≡ kept_by_cut before verdict.r)
 IsRolledBack who verdict (Err fault) before after =
-    (after ≡ before) × (CanReplay (TheProcess who.pid who.n) before verdict.r → IsNoMatterOfContent fault)
+    (after ≡ before) × (CanReplay (the_process who.pid who.n) before verdict.r → IsNoMatterOfContent fault)
 
 -- the process is up, as it was in the verdict's interval, with nothing volatile; and knows the round and its starts
 pub record HasComeBack {S : Type 0} (content : S → Content) (failed : S → ℕ) (is_clean : S → Bool) (IsSound : S → Type 0)

@@ -30,11 +30,11 @@ use Rattle.om_process.specs.steps.Numbers.{made_entry}
 use Rattle.om_process.proofs.Making.{interval_along, part_has}
 use Rattle.om_process.specs.Core.{CoreState, CoreTurns, cluster_size, move_of, status_of, with_now}
 use Rattle.om_process.specs.declared.status.Status.{Status}
-use Rattle.om_process.specs.Parts.{Keeps}
+use Rattle.om_process.specs.Parts.{IsTrimmed}
 use Rattle.om_process.specs.Process.{Process, Received, delivered, empty_queue, made, started}
 use Rattle.om_process.specs.Replays.{process_of, received_of}
 use Rattle.om_process.specs.Starting.{started_core}
-use Rattle.om_process.specs.Stored.{StandsAfter, Anyone, IsReplay}
+use Rattle.om_process.specs.Stored.{StandsAfter, anyone, IsReplay}
 use Rattle.om_process.specs.Flights.{Carries, CarriesCheckpoint}
 use Rattle.om_process.specs.declared.flight.Flight.{Flight}
 use Rattle.om_process.specs.declared.flight.Spelled.{Spelled}
@@ -59,7 +59,7 @@ keep_themselves (q ∷ qs) = (([], refl, add-zero_of q.first), keep_themselves q
     add-zero_of : (x : ℕ) → x ≡ x + length {A = QueueEntry} []
     add-zero_of x = omega arith
 
-keeps_itself : (s : Process) → Keeps s s
+keeps_itself : (s : Process) → IsTrimmed s s
 keeps_itself s = record { same = refl; queues = keep_themselves s.queues }
 
 -- ---- the process
@@ -79,7 +79,7 @@ way_delivered m s r on waits =
 pub way_trimmed : (m : Member) (bounds : List ℕ) (s : Process) → IsOnWay m s → IsOnWay m (trimmed bounds s)
 way_trimmed m bounds s on = (on.0, (on.1.0, on.1.1, keeps_trim bounds on.1.0 s on.1.2))
 
-pub way_replayed : (m : Member) (x : ℕ) (held : Content) (t : Process) → AreOnWay m held → StandsAfter Anyone held x x m.own m.n t → IsOnWay m t
+pub way_replayed : (m : Member) (x : ℕ) (held : Content) (t : Process) → AreOnWay m held → StandsAfter anyone held x x m.own m.n t → IsOnWay m t
 way_replayed m x held t stored stands =
     let at = stands.begins.stored in
     let from = stored stands.checkpoint.head.interval at.0 at.1 stands.checkpoint at.2 in
@@ -91,7 +91,7 @@ way_interval m h s on =
     ap (λ (p : Process). p.interval) on.2.same ∙ interval_along m.program m.own m.n on.1.0 h on.0 on.1.1
 
 -- what is replayed to an interval is in it
-pub replayed_to : (m : Member) (x : ℕ) (held : Content) (t : Process) → AreOnWay m held → StandsAfter Anyone held x x m.own m.n t → t.interval ≡ x
+pub replayed_to : (m : Member) (x : ℕ) (held : Content) (t : Process) → AreOnWay m held → StandsAfter anyone held x x m.own m.n t → t.interval ≡ x
 replayed_to m x held t stored stands =
     let at = stands.begins.stored in
     let from = stored stands.checkpoint.head.interval at.0 at.1 stands.checkpoint at.2 in
@@ -353,7 +353,7 @@ node_back content is_clean IsSound m core old new r kept own size clean sound re
   };
   stands = λ c.
       let at = replayed (c, kept.sound (clean c)) in
-      way_replayed m r (content old) core.now (kept.stored (clean c)) (subst (λ n. StandsAfter Anyone (content old) r r m.own n core.now) size (subst (λ o. StandsAfter Anyone (content old) r r o (cluster_size core.now) core.now) own at));
+      way_replayed m r (content old) core.now (kept.stored (clean c)) (subst (λ n. StandsAfter anyone (content old) r r m.own n core.now) size (subst (λ o. StandsAfter anyone (content old) r r o (cluster_size core.now) core.now) own at));
 }
 
 -- and is in the interval to which it was replayed
@@ -363,7 +363,7 @@ pub back_in : {S : Type 0} (content : S → Content) (is_clean : S → Bool) (Is
     → (IsCleanCall is_clean IsSound old new → IsReplay (content old) r core) → core.now.interval ≡ r
 back_in content is_clean IsSound m core old new r kept was is own size replayed =
     let at = replayed (is, kept.sound was) in
-    replayed_to m r (content old) core.now (kept.stored was) (subst (λ n. StandsAfter Anyone (content old) r r m.own n core.now) size (subst (λ o. StandsAfter Anyone (content old) r r o (cluster_size core.now) core.now) own at))
+    replayed_to m r (content old) core.now (kept.stored was) (subst (λ n. StandsAfter anyone (content old) r r m.own n core.now) size (subst (λ o. StandsAfter anyone (content old) r r o (cluster_size core.now) core.now) own at))
 
 -- how it has ended, and how many outputs it has made
 pub node_whole : {S : Type 0} (content : S → Content) (is_clean : S → Bool) (IsSound : S → Type 0) (m : Member) (core : CoreState) (store : S) (status : Status)

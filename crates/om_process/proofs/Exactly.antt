@@ -12,7 +12,7 @@ use Rattle.om_process.specs.declared.replay.ReplayFault.TheVariants.{NoCheckpoin
 use Rattle.om_process.specs.Process.{Process, delivered}
 use Rattle.om_process.specs.Turns.{Turns}
 use Rattle.om_process.specs.Replays.{FitsReceipt, Replayed, process_of, received_of}
-use Rattle.om_process.specs.Stored.{Anyone, AreReceiptsAfter, BeginsWith, CanReplay, IsCheckpointAt, IsNoMatterOfContent, IsReceiptAt, Refuses}
+use Rattle.om_process.specs.Stored.{anyone, AreReceiptsAfter, BeginsWith, CanReplay, IsCheckpointAt, IsCheckpointOf, IsNoMatterOfContent, IsReceiptAt, Refuses}
 use Rattle.om_process.proofs.Basics.{some_once}
 use Rattle.om_process.proofs.Runs.{waits_once}
 
@@ -67,8 +67,8 @@ not_replayed own n held after (p ∷ before) (q ∷ rs) c s t r stored all short
     (subst (λ y. IsReceiptAt held y r) next (subst (λ k. IsReceiptAt held (after + k + 1) r) long is)) first.4 rest not
 
 -- where it can be replayed, a refusal is no matter of the content
-pub only_refused : (Meant : ℕ → ℕ → Type 0) (held : Content) (x : ℕ) (fault : ReplayFault) → Refuses Meant held x fault → CanReplay Meant held x → IsNoMatterOfContent fault
-only_refused Meant held x NoCheckpoint why can =
+pub only_refused : (whose : Option (ℕ × ℕ)) (held : Content) (x : ℕ) (fault : ReplayFault) → Refuses whose held x fault → CanReplay whose held x → IsNoMatterOfContent fault
+only_refused whose held x NoCheckpoint why can =
     let effective = can.3.begins.effective in
     let within : can.3.checkpoint.head.interval ≤ x = effective.within in
     absurd (nothing (get held.checkpoints can.3.checkpoint.head.interval) effective.has (why can.3.checkpoint.head.interval (omega arith) (omega arith)))
@@ -76,11 +76,11 @@ only_refused Meant held x NoCheckpoint why can =
     nothing : (o : Option (List ℕ)) → IsSome o → o ≡ None → ⊥
     nothing None some none = cc
     nothing (Some bytes) some none = cc
-only_refused Meant held x (Damaged y) (inl why) can =
+only_refused whose held x (Damaged y) (inl why) can =
     let begins = can.3.begins in
     let same = one_effective held.checkpoints x can.3.checkpoint.head.interval y begins.effective why.effective in
     absurd (why.damaged can.3.checkpoint (subst (λ z. IsCheckpointAt held.checkpoints z can.3.checkpoint) same begins.stored) begins.meant)
-only_refused Meant held x (Damaged y) (inr why) can =
+only_refused whose held x (Damaged y) (inr why) can =
     let stands = can.3 in
     let before = why.3.2 in
     let same = one_effective held.checkpoints x before.checkpoint.head.interval stands.checkpoint.head.interval before.begins.effective stands.begins.effective in
@@ -90,7 +90,7 @@ only_refused Meant held x (Damaged y) (inr why) can =
     let last : x ≡ stands.checkpoint.head.interval + length stands.receipts = stands.last in
     let there = receipt_there held.receipts stands.checkpoint.head.interval y stands.receipts stands.stored (omega arith) (omega arith) in
     absurd (why.4 there.0 there.1)
-only_refused Meant held x (MissingReceipt y) why can =
+only_refused whose held x (MissingReceipt y) why can =
     let stands = can.3 in
     let same = one_effective held.checkpoints x why.checkpoint.head.interval stands.checkpoint.head.interval why.begins.effective stands.begins.effective in
     let above : why.checkpoint.head.interval < y = why.above in
@@ -99,7 +99,7 @@ only_refused Meant held x (MissingReceipt y) why can =
     nothing : (o : Option (List ℕ)) → IsSome o → o ≡ None → ⊥
     nothing None some none = cc
     nothing (Some bytes) some none = cc
-only_refused Meant held x (Mismatch y) why can =
+only_refused whose held x (Mismatch y) why can =
     let stands = can.3 in
     let before = why.3.2 in
     let same = one_effective held.checkpoints x before.checkpoint.head.interval stands.checkpoint.head.interval before.begins.effective stands.begins.effective in
@@ -116,12 +116,12 @@ only_refused Meant held x (Mismatch y) why can =
     let not = subst (λ o. FitsNowhere o can.1 why.2 why.4) own (subst (λ n. FitsNowhere why.0 n why.2 why.4) size why.6) in
     absurd (not_replayed can.0 can.1 held.receipts stands.checkpoint.head.interval before.receipts stands.receipts (process_of stands.checkpoint) why.2 can.2 why.4
     (subst (λ z. AreReceiptsAfter held.receipts z before.receipts) same before.stored) stands.stored (omega arith) (subst (λ z. IsReceiptAt held.receipts z why.4) here why.5) first stands.replayed not)
-only_refused Meant held x Fault why can = inl refl
-only_refused Meant held x Memory why can = inr refl
+only_refused whose held x Fault why can = inl refl
+only_refused whose held x Memory why can = inr refl
 
 -- the effective checkpoint is of a process that is not meant
-pub another_process : (Meant : ℕ → ℕ → Type 0) (held : Content) (x : ℕ) (c : CheckpointRecord) → BeginsWith Anyone held x c → (Meant c.head.pid c.n → ⊥) → Refuses Meant held x (Damaged c.head.interval)
-another_process Meant held x c begins other = inl (record {
+pub another_process : (whose : Option (ℕ × ℕ)) (held : Content) (x : ℕ) (c : CheckpointRecord) → BeginsWith anyone held x c → (IsCheckpointOf whose c → ⊥) → Refuses whose held x (Damaged c.head.interval)
+another_process whose held x c begins other = inl (record {
   effective = begins.effective;
-  damaged = λ d is meant. let same = one_checkpoint_at held.checkpoints c.head.interval d c is begins.stored in other (subst (λ (e : CheckpointRecord). Meant e.head.pid e.n) same meant);
+  damaged = λ d is meant. let same = one_checkpoint_at held.checkpoints c.head.interval d c is begins.stored in other (subst (IsCheckpointOf whose) same meant);
 })

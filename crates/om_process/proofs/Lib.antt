@@ -15,3 +15,4 @@ pub mod Fitting
 pub mod RowLemmas
 pub mod StoredLemmas
 pub mod Exactly
+pub mod Fifos

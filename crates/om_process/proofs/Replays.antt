@@ -10,7 +10,7 @@ use Rattle.om_process.specs.Process.{Process, Received, Program, Move, Waits, En
 use Rattle.om_process.specs.Turns.{next_move, next_turn, Turns, IsWaiting}
 use Rattle.om_process.specs.Replays.{Replayed, FitsReceipt, received_of}
 use Rattle.om_process.specs.steps.Pieces.{receipts_of, KeepQueues}
-use Rattle.om_process.specs.Parts.{KeepsQueue, Keeps}
+use Rattle.om_process.specs.Parts.{IsTrimmedQueue, IsTrimmed}
 use Rattle.om_process.specs.Trims.{trimmed_queue, trimmed_queues, trimmed}
 use Rattle.om_process.specs.Claims.{CheckpointOf, RecordsAlong}
 use Rattle.om_process.proofs.Runs.{leads_once, leads_more, one_turn, no_turn, turns_then}
@@ -27,31 +27,31 @@ turns_to_wait own n (suc j) (suc k) a w c t is u = turns_to_wait own n j k t.0 w
 
 -- ---- a turn of the whole is a turn of the part
 part_moved : (whole : Process) (queues : List QueueRecord) (next : Process) (move : Move) → KeepQueues whole.queues queues → moved whole move ≡ Some next
-    → (p : Process) × (moved (with_queues whole queues) move ≡ Some p) × Keeps next p
+    → (p : Process) × (moved (with_queues whole queues) move ≡ Some p) × IsTrimmed next p
 part_moved whole queues next Waits p e = absurd (some_none next (sym e))
 part_moved whole queues next (Ends code) p e = absurd (some_none next (sym e))
 part_moved whole queues next (Traps cause) p e = absurd (some_none next (sym e))
 part_moved whole queues next (Goes m) p e =
     let d : Process = record { machine = m; interval = whole.interval; vec = whole.vec; got = whole.got; queues = queues } in
-    (d, refl, subst (λ (w : Process). Keeps w d) (some_once _ next e) (record { same = refl; queues = p }))
+    (d, refl, subst (λ (w : Process). IsTrimmed w d) (some_once _ next e) (record { same = refl; queues = p }))
 part_moved whole queues next (Emits j body m) p e =
     let item : QueueEntry = record { interval = whole.interval; body = body } in
     let d : Process = record { machine = m; interval = whole.interval; vec = whole.vec; got = whole.got; queues = emitted j item queues } in
-    (d, refl, subst (λ (w : Process). Keeps w d) (some_once _ next e) (record { same = refl; queues = keep_emitted j item whole.queues queues p }))
+    (d, refl, subst (λ (w : Process). IsTrimmed w d) (some_once _ next e) (record { same = refl; queues = keep_emitted j item whole.queues queues p }))
 
-pub part_turn : (own n : ℕ) (whole part next : Process) → Keeps whole part → next_turn own n whole ≡ Some next → (p : Process) × (next_turn own n part ≡ Some p) × Keeps next p
+pub part_turn : (own n : ℕ) (whole part next : Process) → IsTrimmed whole part → next_turn own n whole ≡ Some next → (p : Process) × (next_turn own n part ≡ Some p) × IsTrimmed next p
 part_turn own n whole part next keeps e =
     let m = part_moved whole part.queues next (next_move own n whole.machine (made whole.queues)) keeps.queues e in
     (m.0, ap (moved part) (same_move own n whole part keeps) ∙ ap (λ (p : Process). moved p (next_move own n whole.machine (made whole.queues))) keeps.same ∙ m.1, m.2)
 
-pub part_turns : (own n k : ℕ) (whole part next : Process) → Keeps whole part → Turns own n k whole next → (p : Process) × Turns own n k part p × Keeps next p
-part_turns own n zero whole part next keeps e = (part, refl, subst (λ (w : Process). Keeps w part) (sym e) keeps)
+pub part_turns : (own n k : ℕ) (whole part next : Process) → IsTrimmed whole part → Turns own n k whole next → (p : Process) × Turns own n k part p × IsTrimmed next p
+part_turns own n zero whole part next keeps e = (part, refl, subst (λ (w : Process). IsTrimmed w part) (sym e) keeps)
 part_turns own n (suc k) whole part next keeps e =
     let a = part_turn own n whole part e.0 keeps e.1 in
     let b = part_turns own n k e.0 a.0 next a.2 e.2 in
     (b.0, (a.0, a.1, b.1), b.2)
 
-pub part_fits : (own n : ℕ) (whole part : Process) (r : ReceiptRecord) → Keeps whole part → FitsReceipt own n whole r → FitsReceipt own n part r
+pub part_fits : (own n : ℕ) (whole part : Process) (r : ReceiptRecord) → IsTrimmed whole part → FitsReceipt own n whole r → FitsReceipt own n part r
 part_fits own n whole part r keeps f = record {
   to = f.to;
   from = f.from;
@@ -87,7 +87,7 @@ replayed_along program own n c t h (r ∷ rs) a e =
     (d, (0, (d, leads_more own n h on.0 (started program n) w.0 (received_of r) (a.1.1.0, a.1.1.1, on.1) (keeps_waits own n w.0 e.1 w.2 e.3.waits), refl)), keeps_delivered own w.0 e.1 (received_of r) w.2) e.4)
 
 -- ---- trimming
-keeps_trimmed : (bound : ℕ) (f q : QueueRecord) → KeepsQueue f q → KeepsQueue f (trimmed_queue bound q)
+keeps_trimmed : (bound : ℕ) (f q : QueueRecord) → IsTrimmedQueue f q → IsTrimmedQueue f (trimmed_queue bound q)
 keeps_trimmed bound f q keeps =
     let k = min (bound - q.first) (length q.entries) in
     let l : length (take k q.entries) ≡ k = length-take-le k q.entries (omega arith) in
@@ -102,7 +102,7 @@ keep_trimmed (b ∷ bounds) [] (q ∷ qs) k = absurd k
 keep_trimmed (b ∷ bounds) (f ∷ fs) [] k = absurd k
 keep_trimmed (b ∷ bounds) (f ∷ fs) (q ∷ qs) k = (keeps_trimmed b f q k.0, keep_trimmed bounds fs qs k.1)
 
-pub keeps_trim : (bounds : List ℕ) (whole part : Process) → Keeps whole part → Keeps whole (trimmed bounds part)
+pub keeps_trim : (bounds : List ℕ) (whole part : Process) → IsTrimmed whole part → IsTrimmed whole (trimmed bounds part)
 keeps_trim bounds whole part keeps = record { same = ap (λ (p : Process). with_queues p (trimmed_queues bounds part.queues)) keeps.same; queues = keep_trimmed bounds whole.queues part.queues keeps.queues }
 
 -- ---- a receipt fits or does not

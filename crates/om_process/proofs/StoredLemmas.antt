@@ -15,7 +15,7 @@ use Rattle.om_process.specs.declared.replay.ReplayFault.TheVariants.{NoCheckpoin
 use Rattle.om_process.specs.Process.{Process}
 use Rattle.om_process.specs.Replays.{Replayed, process_of}
 use Rattle.om_process.specs.Core.{CoreState, cluster_size}
-use Rattle.om_process.specs.Stored.{Anyone, AreReceiptsAfter, BeginsWith, StandsAfter, ComesTo, IsReceiptAt, IsNoMatterOfContent, Refuses}
+use Rattle.om_process.specs.Stored.{anyone, AreReceiptsAfter, BeginsWith, StandsAfter, ComesTo, IsCheckpointOf, IsReceiptAt, IsNoMatterOfContent, Refuses}
 use Rattle.om_process.specs.steps.Rows.{Ascend, AreGapless, ComesFrom, HasReceipts, IsFirstGap, IsReplayFrom, RefusesBytes, RefusesCheckpoint, RefusesFrom, RefusesRow, RefusesRows, RefusesStart, SpellRows, damage}
 use Rattle.om_process.proofs.Basics.{some_once}
 use Rattle.om_process.proofs.Replays.{fits_not_both}
@@ -252,7 +252,7 @@ names_another y found r read due is at same other named =
     other (ap (λ (c : CheckpointRecord). c.head.interval) (sym equal) ∙ named)
 
 -- ---- with the checkpoint that is effective
-pub begins_with : (held : Content) (x y : ℕ) (bytes : List ℕ) (c : CheckpointRecord) → IsEffective held.checkpoints x y → get held.checkpoints y ≡ Some bytes → IsSpelled c bytes → c.head.interval ≡ y → BeginsWith Anyone held x c
+pub begins_with : (held : Content) (x y : ℕ) (bytes : List ℕ) (c : CheckpointRecord) → IsEffective held.checkpoints x y → get held.checkpoints y ≡ Some bytes → IsSpelled c bytes → c.head.interval ≡ y → BeginsWith anyone held x c
 begins_with held x y bytes c effective there spelled at = record {
   effective = subst (IsEffective held.checkpoints x) (sym at) effective;
   stored = (bytes, ap (get held.checkpoints) at ∙ there, spelled, refl);
@@ -272,32 +272,32 @@ start_refused held x y bytes (Mismatch z) effective there why = absurd why
 start_refused held x y bytes Fault effective there why = tt
 start_refused held x y bytes Memory effective there why = tt
 
-pub refused_at_start : (Meant : ℕ → ℕ → Type 0) (held : Content) (x : ℕ) (fault : ReplayFault) → RefusesStart held x fault → Refuses Meant held x fault
-refused_at_start Meant held x NoCheckpoint why = why
-refused_at_start Meant held x (Damaged y) why = inl (record { effective = why.effective; damaged = λ c is meant. why.damaged c is tt })
-refused_at_start Meant held x (MissingReceipt y) why = absurd why
-refused_at_start Meant held x (Mismatch y) why = absurd why
-refused_at_start Meant held x Fault why = tt
-refused_at_start Meant held x Memory why = tt
+pub refused_at_start : (whose : Option (ℕ × ℕ)) (held : Content) (x : ℕ) (fault : ReplayFault) → RefusesStart held x fault → Refuses whose held x fault
+refused_at_start whose held x NoCheckpoint why = why
+refused_at_start whose held x (Damaged y) why = inl (record { effective = why.effective; damaged = λ c is meant. why.damaged c is tt })
+refused_at_start whose held x (MissingReceipt y) why = absurd why
+refused_at_start whose held x (Mismatch y) why = absurd why
+refused_at_start whose held x Fault why = tt
+refused_at_start whose held x Memory why = tt
 
-stands_before : (Meant : ℕ → ℕ → Type 0) (held : Content) (x y : ℕ) (c : CheckpointRecord) (s : Process) → BeginsWith Meant held x c → HasReceipts held x c → ComesFrom held x c y s → ComesTo Meant held x y c.head.pid c.n s
-stands_before Meant held x y c s begins has comes =
+stands_before : (whose : Option (ℕ × ℕ)) (held : Content) (x y : ℕ) (c : CheckpointRecord) (s : Process) → BeginsWith whose held x c → HasReceipts held x c → ComesFrom held x c y s → ComesTo whose held x y c.head.pid c.n s
+stands_before whose held x y c s begins has comes =
     let next : y ≡ c.head.interval + length comes.receipts + 1 = comes.next in (
       omega arith,
       comes.within,
       record { checkpoint = c; begins = begins; all_there = has; pid = refl; size = refl; receipts = comes.receipts; stored = comes.stored; last = omega arith; replayed = comes.replayed },
     )
 
-pub refused_from : (Meant : ℕ → ℕ → Type 0) (held : Content) (x : ℕ) (c : CheckpointRecord) (fault : ReplayFault) → BeginsWith Meant held x c → RefusesFrom held x c fault → Refuses Meant held x fault
-refused_from Meant held x c NoCheckpoint begins why = absurd why
-refused_from Meant held x c (Damaged y) begins why = inr (c.head.pid, c.n, why.1.0, stands_before Meant held x y c why.1.0 begins why.0 why.1.1, why.1.2)
-refused_from Meant held x c (MissingReceipt y) begins why = record { checkpoint = c; begins = begins; above = why.0; within = why.1; none = why.2; before = why.3 }
-refused_from Meant held x c (Mismatch y) begins why = (c.head.pid, c.n, why.1.0, stands_before Meant held x y c why.1.0 begins why.0 why.1.1, why.1.2, why.1.3, λ k w turns fits. fits_not_both c.head.pid c.n k why.1.0 w why.1.2 turns fits why.1.4)
-refused_from Meant held x c Fault begins why = tt
-refused_from Meant held x c Memory begins why = tt
+pub refused_from : (whose : Option (ℕ × ℕ)) (held : Content) (x : ℕ) (c : CheckpointRecord) (fault : ReplayFault) → BeginsWith whose held x c → RefusesFrom held x c fault → Refuses whose held x fault
+refused_from whose held x c NoCheckpoint begins why = absurd why
+refused_from whose held x c (Damaged y) begins why = inr (c.head.pid, c.n, why.1.0, stands_before whose held x y c why.1.0 begins why.0 why.1.1, why.1.2)
+refused_from whose held x c (MissingReceipt y) begins why = record { checkpoint = c; begins = begins; above = why.0; within = why.1; none = why.2; before = why.3 }
+refused_from whose held x c (Mismatch y) begins why = (c.head.pid, c.n, why.1.0, stands_before whose held x y c why.1.0 begins why.0 why.1.1, why.1.2, why.1.3, λ k w turns fits. fits_not_both c.head.pid c.n k why.1.0 w why.1.2 turns fits why.1.4)
+refused_from whose held x c Fault begins why = tt
+refused_from whose held x c Memory begins why = tt
 
-pub replayed_from : (Meant : ℕ → ℕ → Type 0) (held : Content) (x : ℕ) (c : CheckpointRecord) (core : CoreState) → BeginsWith Meant held x c → IsReplayFrom held x c core → StandsAfter Meant held x x core.own (cluster_size core.now) core.now
-replayed_from Meant held x c core begins is = record {
+pub replayed_from : (whose : Option (ℕ × ℕ)) (held : Content) (x : ℕ) (c : CheckpointRecord) (core : CoreState) → BeginsWith whose held x c → IsReplayFrom held x c core → StandsAfter whose held x x core.own (cluster_size core.now) core.now
+replayed_from whose held x c core begins is = record {
   checkpoint = c;
   begins = begins;
   all_there = is.all;
@@ -309,10 +309,10 @@ replayed_from Meant held x c core begins is = record {
   replayed = subst (λ o. Replayed o (cluster_size core.now) (process_of c) is.receipts core.now) (sym is.own) (subst (λ n. Replayed c.head.pid n (process_of c) is.receipts core.now) (sym is.size) is.replayed);
 }
 
-pub refused_for_no_matter : (Meant : ℕ → ℕ → Type 0) (held : Content) (x : ℕ) (fault : ReplayFault) → IsNoMatterOfContent fault → Refuses Meant held x fault
-refused_for_no_matter Meant held x fault (inl is) = subst (Refuses Meant held x) (sym is) tt
-refused_for_no_matter Meant held x fault (inr is) = subst (Refuses Meant held x) (sym is) tt
+pub refused_for_no_matter : (whose : Option (ℕ × ℕ)) (held : Content) (x : ℕ) (fault : ReplayFault) → IsNoMatterOfContent fault → Refuses whose held x fault
+refused_for_no_matter whose held x fault (inl is) = subst (Refuses whose held x) (sym is) tt
+refused_for_no_matter whose held x fault (inr is) = subst (Refuses whose held x) (sym is) tt
 
 -- with the checkpoint of a process that is meant
-pub meant_begins : (Meant : ℕ → ℕ → Type 0) (held : Content) (x : ℕ) (c : CheckpointRecord) → BeginsWith Anyone held x c → Meant c.head.pid c.n → BeginsWith Meant held x c
-meant_begins Meant held x c begins meant = record { effective = begins.effective; stored = begins.stored; meant = meant }
+pub meant_begins : (whose : Option (ℕ × ℕ)) (held : Content) (x : ℕ) (c : CheckpointRecord) → BeginsWith anyone held x c → IsCheckpointOf whose c → BeginsWith whose held x c
+meant_begins whose held x c begins meant = record { effective = begins.effective; stored = begins.stored; meant = meant }

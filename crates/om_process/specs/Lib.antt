@@ -1,3 +1,4 @@
+pub mod Ends
 pub mod Process
 pub mod Images
 pub mod Turns

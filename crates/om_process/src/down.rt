@@ -5,7 +5,7 @@ ghost use Rattle.om_stable.specs.Calls.{IsCleanCall, UsesStore};
 ghost use Rattle.om_stable.specs.Content.{kept_by_cut};
 ghost use Rattle.om_process.specs.Core.{cluster_size};
 ghost use Rattle.om_process.specs.Resumes.{resumed};
-ghost use Rattle.om_process.specs.Stored.{CanReplay, IsNoMatterOfContent, IsReplay, Refuses, TheProcess};
+ghost use Rattle.om_process.specs.Stored.{CanReplay, IsNoMatterOfContent, IsReplay, Refuses, the_process};
 ghost use Rattle.om_process.specs.declared.replay.ReplayFault.{ReplayFault};
 
 use crate::proc_core::ProcCore;
@@ -78,9 +78,9 @@ impl Down {
         ensures starts { IfOk result (λ core. core.starts ≡ starts.now) }
         ensures down { IfErr result (λ refusal. refusal.0 ≡ self) }
         ensures refused { IsCleanCall S.is_clean S.IsSound store.old store.new
-            → IfErr result (λ refusal. Refuses (TheProcess self.pid self.n) (S.content store.old) verdict.now.r refusal.1) }
+            → IfErr result (λ refusal. Refuses (the_process self.pid self.n) (S.content store.old) verdict.now.r refusal.1) }
         ensures only { IsCleanCall S.is_clean S.IsSound store.old store.new
-            → CanReplay (TheProcess self.pid self.n) (S.content store.old) verdict.now.r
+            → CanReplay (the_process self.pid self.n) (S.content store.old) verdict.now.r
             → IfErr result (λ refusal. IsNoMatterOfContent refusal.1) }
         ensures same { IsCleanCall S.is_clean S.IsSound store.old store.new
             → OnErr result (S.content store.new ≡ S.content store.old) }
@@ -113,7 +113,7 @@ impl Down {
         ensures round { IfOk result (λ core. core.round ≡ verdict.now.round) }
         ensures starts { IfOk result (λ core. core.starts ≡ starts.now) }
         ensures refused { IsCleanCall S.is_clean S.IsSound store.old store.new
-            → IfErr result (λ fault. Refuses (TheProcess self.now.pid self.now.n) (S.content store.old) verdict.now.r fault) }
+            → IfErr result (λ fault. Refuses (the_process self.now.pid self.now.n) (S.content store.old) verdict.now.r fault) }
         ensures same { IsCleanCall S.is_clean S.IsSound store.old store.new
             → OnErr result (S.content store.new ≡ S.content store.old) }
         ensures used { UsesStore S.failed S.is_clean S.IsSound store.old (IsErrOf result ReplayFault.Fault) store.new }
@@ -141,7 +141,7 @@ impl Down {
         ensures log { IfOk result (λ core. core.log ≡ []) }
         ensures pending { IfOk result (λ core. core.pending ≡ []) }
         ensures refused { IsCleanCall S.is_clean S.IsSound store.old store.new
-            → IfErr result (λ fault. Refuses (TheProcess self.now.pid self.now.n) (S.content store.old) x fault) }
+            → IfErr result (λ fault. Refuses (the_process self.now.pid self.now.n) (S.content store.old) x fault) }
         ensures same { IsCleanCall S.is_clean S.IsSound store.old store.new → S.content store.new ≡ S.content store.old }
         ensures used { UsesStore S.failed S.is_clean S.IsSound store.old (IsErrOf result ReplayFault.Fault) store.new }
     {

@@ -1,6 +1,6 @@
 //! A list whose front is dropped.
 
-ghost use Rattle.std.specs.Prelude.{◌≡◌, ◌≤◌, ◌++◌, ◌∷◌, [], drop, length, OnOk, OnErr};
+ghost use Rattle.std.specs.Prelude.{◌≡◌, ◌≤◌, ◌+◌, ◌++◌, ◌∷◌, [], drop, length, OnOk, OnErr};
 
 use std::alloc::{AllocError, Global};
 use std::marker::Model;
@@ -68,8 +68,22 @@ impl<T: Drop> Fifo<T> {
     {
         self.gone += count;
         if self.gone > self.items.len() - self.gone {
-            self.items.drain(..self.gone);
+            move_to_front(&mut self.items, self.gone);
             self.gone = 0;
         }
     }
+}
+
+// Moves the entries from `from` on to the front, in order, and drops what stood before them, which are no fewer. A drain would
+// turn the list through a room of its own, which costs more than the few that are moved.
+fn move_to_front<T: Drop>(items: &mut Vec<T>, from: usize)
+    requires within { from ≤ length items.old.items }
+    requires fewer { length items.old.items ≤ from + from }
+    ensures { items.new.items ≡ drop from items.old.items }
+{
+    let left = items.len() - from;
+    for k in 0..left {
+        items.swap(k, from + k);
+    }
+    items.truncate(left);
 }

@@ -10,7 +10,7 @@ ghost use Rattle.om_process.specs.Accepts.{taken};
 ghost use Rattle.om_process.specs.Claims.{AtInterval, CheckpointOf, HasEntry, Makes, RecordsAlong, RowOf};
 ghost use Rattle.om_process.specs.Core.{CoreState, with_now, with_pending};
 ghost use Rattle.om_process.specs.Flights.{Carries, StillFirst};
-ghost use Rattle.om_process.specs.Parts.{Grow, Keeps};
+ghost use Rattle.om_process.specs.Parts.{Grow, IsTrimmed};
 ghost use Rattle.om_process.specs.Process.{Process, Program, Received, delivered, started};
 ghost use Rattle.om_process.specs.Replays.{FitsReceipt, Replayed, received_of};
 ghost use Rattle.om_process.specs.Stores.{HasGainedFirst, HasGainedLog, flushed, flushed_first};
@@ -27,8 +27,8 @@ pub fn one_turn()
     ensures stays { (own n : ℕ) (s t : Process) → next_turn own n s ≡ Some t
         → (t.interval ≡ s.interval) × (t.vec ≡ s.vec) × (t.got ≡ s.got) }
     ensures grows { (own n : ℕ) (s t : Process) → next_turn own n s ≡ Some t → Grow s.interval s.queues t.queues }
-    ensures part { (own n : ℕ) (whole part next : Process) → Keeps whole part → next_turn own n part ≡ Some next
-        → (w : Process) × (next_turn own n whole ≡ Some w) × Keeps w next }
+    ensures part { (own n : ℕ) (whole part next : Process) → IsTrimmed whole part → next_turn own n part ≡ Some next
+        → (w : Process) × (next_turn own n whole ≡ Some w) × IsTrimmed w next }
 {}
 
 /// Given receipts and a given number of turns lead to one state at most.
@@ -118,13 +118,13 @@ pub fn same_entry()
 /// deliveries.
 pub fn parts_go_on()
     ensures of_the_part { (own n k : ℕ) (whole part next : Process)
-        → Keeps whole part → Turns own n k part next → (w : Process) × Turns own n k whole w × Keeps w next }
+        → IsTrimmed whole part → Turns own n k part next → (w : Process) × Turns own n k whole w × IsTrimmed w next }
     ensures of_the_whole { (own n k : ℕ) (whole part next : Process)
-        → Keeps whole part → Turns own n k whole next → (p : Process) × Turns own n k part p × Keeps next p }
-    ensures waits { (own n : ℕ) (whole part : Process) → Keeps whole part → IsWaiting own n part ↔ IsWaiting own n whole }
+        → IsTrimmed whole part → Turns own n k whole next → (p : Process) × Turns own n k part p × IsTrimmed next p }
+    ensures waits { (own n : ℕ) (whole part : Process) → IsTrimmed whole part → IsWaiting own n part ↔ IsWaiting own n whole }
     ensures delivery { (own : ℕ) (whole part : Process) (r : Received)
-        → Keeps whole part → Keeps (delivered own whole r) (delivered own part r) }
-    ensures trimming { (bounds : List ℕ) (whole part : Process) → Keeps whole part → Keeps whole (trimmed bounds part) }
+        → IsTrimmed whole part → IsTrimmed (delivered own whole r) (delivered own part r) }
+    ensures trimming { (bounds : List ℕ) (whole part : Process) → IsTrimmed whole part → IsTrimmed whole (trimmed bounds part) }
 {}
 
 /// Turns count.

@@ -6,7 +6,7 @@ ghost use Rattle.om_format.specs.Checkpoints.{IsSpelled};
 ghost use Rattle.om_stable.specs.Calls.{IsCleanCall, UsesStore};
 ghost use Rattle.om_stable.specs.declared.error.StoreError.{StoreError};
 ghost use Rattle.om_process.specs.Core.{cluster_size};
-ghost use Rattle.om_process.specs.Stored.{Anyone, BeginsWith, CanReplay, IsNoMatterOfContent, IsReplay, Refuses};
+ghost use Rattle.om_process.specs.Stored.{anyone, BeginsWith, CanReplay, IsNoMatterOfContent, IsReplay, Refuses};
 ghost use Rattle.om_process.specs.steps.Rows.{IsReplayFrom, RefusesCheckpoint, RefusesFrom, RefusesStart, damage};
 
 use crate::proc_core::ProcCore;
@@ -98,7 +98,7 @@ pub(crate) fn beginning<S: Stable>(
     x: u32,
 ) -> Result<Checkpoint, ReplayFault>
     ensures begins { IsCleanCall S.is_clean S.IsSound store.old store.new
-        → IfOk result (λ checkpoint. BeginsWith Anyone (S.content store.old) x (checkpoint_record checkpoint)) }
+        → IfOk result (λ checkpoint. BeginsWith anyone (S.content store.old) x (checkpoint_record checkpoint)) }
     ensures refused { IsCleanCall S.is_clean S.IsSound store.old store.new
         → IfErr result (λ fault. RefusesStart (S.content store.old) x fault) }
     ensures same { IsCleanCall S.is_clean S.IsSound store.old store.new → S.content store.new ≡ S.content store.old }
@@ -155,8 +155,8 @@ impl ProcCore {
         ensures replayed { IsCleanCall S.is_clean S.IsSound store.old store.new
             → IfOk result (λ core. IsReplay (S.content store.old) x core) }
         ensures refused { IsCleanCall S.is_clean S.IsSound store.old store.new
-            → IfErr result (λ fault. Refuses Anyone (S.content store.old) x fault) }
-        ensures only { IsCleanCall S.is_clean S.IsSound store.old store.new → CanReplay Anyone (S.content store.old) x
+            → IfErr result (λ fault. Refuses anyone (S.content store.old) x fault) }
+        ensures only { IsCleanCall S.is_clean S.IsSound store.old store.new → CanReplay anyone (S.content store.old) x
             → IfErr result (λ fault. IsNoMatterOfContent fault) }
         ensures log { IfOk result (λ core. core.log ≡ []) }
         ensures pending { IfOk result (λ core. core.pending ≡ []) }

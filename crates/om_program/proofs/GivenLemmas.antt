@@ -2,7 +2,7 @@
 use Rattle.std.proofs.Common.{◌≡◌, ◌∙◌, ℕ, ◌+◌, ◌<◌, ◌≤◌, List, [], ◌∷◌, ◌++◌, length, take, get_or, ap, sym}
 use Rattle.std.specs.Prelude.{string_bytes}
 use Rattle.std.proofs.lemmas.List.{map-append, take_all, take_more}
-use Rattle.om_arguments.specs.declared.debug_request.Symbols.{Symbols as Given}
+use Rattle.om_arguments.specs.declared.debug_request.SymbolFile.{SymbolFile as Given}
 use Rattle.om_debug_command.specs.declared.symbols.Symbols.{Symbols}
 use Rattle.om_program.specs.Refusals.{names_given, names_of}
 

@@ -79,13 +79,13 @@ IsLookError (looks.Replay file interval short) error = IsErrorOfFile (λ held. I
 IsLookError (looks.Steps file interval steps traced short) error = IsErrorOfFile (λ held. IsReplayError held interval) error
 
 -- the error refuses to show processes of a record, whose own errors are these
-abbrev pub IsErrorOfShown : (CommandError → Type 0) → CommandError → Type 0
-IsErrorOfShown IsErrorOfRecord errors.NoThread = Unit {0}
-IsErrorOfShown IsErrorOfRecord error = IsErrorOfRecord error
+abbrev pub IsErrorOfDebugging : (CommandError → Type 0) → CommandError → Type 0
+IsErrorOfDebugging IsErrorOfRecord errors.NoThread = Unit {0}
+IsErrorOfDebugging IsErrorOfRecord error = IsErrorOfRecord error
 
 -- the error refuses to show the process whose store a file holds, at an interval or else at the last
 abbrev pub IsErrorOfShownFile : Option ℕ → CommandError → Type 0
-IsErrorOfShownFile interval error = IsErrorOfShown (IsErrorOfFile (λ held. IsErrorOfShownStore held interval)) error
+IsErrorOfShownFile interval error = IsErrorOfDebugging (IsErrorOfFile (λ held. IsErrorOfShownStore held interval)) error
 
 -- the error refuses the request for these bytes
 abbrev pub IsErrorOfRequest : Request → List ℕ → CommandError → Type 0
@@ -95,8 +95,8 @@ IsErrorOfRequest (requests.Sim form) bytes error = IsErrorOfSim bytes error
 IsErrorOfRequest (requests.Draw lines) bytes error = IsErrorOfSim bytes error
 IsErrorOfRequest (requests.Run running) bytes error = IsErrorOfAsked running bytes error
 IsErrorOfRequest (requests.Explore exploring) bytes error = IsErrorOfRun bytes error
-IsErrorOfRequest (requests.Debug None) bytes error = IsErrorOfShown (IsErrorOfSim bytes) error
-IsErrorOfRequest (requests.Debug (Some process)) bytes error = IsErrorOfShown (IsErrorOfDebug bytes process.now) error
+IsErrorOfRequest (requests.Debug None) bytes error = IsErrorOfDebugging (IsErrorOfSim bytes) error
+IsErrorOfRequest (requests.Debug (Some process)) bytes error = IsErrorOfDebugging (IsErrorOfDebug bytes process.now) error
 IsErrorOfRequest (requests.DebugStore file interval) bytes error = IsErrorOfShownFile interval error
 IsErrorOfRequest (requests.Look look) bytes error = IsLookError look error
 IsErrorOfRequest (requests.Image ext name size) bytes error = ⊤

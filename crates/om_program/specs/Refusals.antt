@@ -2,7 +2,7 @@
 use Rattle.std.specs.Prelude.{◌≡◌, ℕ, List, map, None, Ok, Err, Result, ⊤, string_bytes}
 use Rattle.om_arguments.specs.declared.arguments.Request.{Request}
 use Rattle.om_arguments.specs.declared.arguments.Request.TheVariants as requests
-use Rattle.om_arguments.specs.declared.debug_request.Symbols.{Symbols as Given}
+use Rattle.om_arguments.specs.declared.debug_request.SymbolFile.{SymbolFile as Given}
 use Rattle.om_debug_command.specs.Debug.{LacksProgram}
 use Rattle.om_debug_command.specs.declared.error.DebugError.{DebugError}
 use Rattle.om_debug_command.specs.declared.error.DebugError.TheVariants.{NoSuchName, Refused}

@@ -6,7 +6,7 @@ ghost use Rattle.om_program.specs.Answers.{IsErrorOfShownFile};
 ghost use Rattle.om_program.specs.Refusals.{IsRefusal, names_given, names_of};
 ghost use Rattle.om_program.specs.steps.Ends.{IsRefusalOfAll, IsRefusalOfOne};
 
-use om_arguments::Symbols as Given;
+use om_arguments::SymbolFile as Given;
 use om_commands::CommandError;
 use om_debug::Wish;
 use om_debug_command::{DebugError, Symbols, debug, debug_all};

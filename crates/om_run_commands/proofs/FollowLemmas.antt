@@ -1,6 +1,6 @@
 -- What is written of a run that is followed.
 use Rattle.std.proofs.Common.{◌≡◌, ◌≢◌, ◌⊎◌, inl, inr, ℕ, ◌≤◌, Option, None, Some, Result, Ok, Err, List, [], ◌∷◌, ◌++◌, length, map, refl, sym, ap, subst, ◌∙◌, append-nil}
-use Rattle.std.specs.Prelude.{All, IfErr, IfOk, IfSome, OnOk}
+use Rattle.std.specs.Prelude.{IfErr, IfOk}
 use Rattle.std.specs.Io.KnownBytes.{Appends, Keeps}
 use Rattle.std.proofs.lemmas.Grind.{flat_map-append}
 use Rattle.std.proofs.lemmas.List.{length-map}
@@ -10,15 +10,13 @@ use Rattle.om_process.specs.declared.image.Image.{Image}
 use Rattle.om_process.specs.declared.status.Status.{Status}
 use Rattle.om_scripts.specs.Programs.{Cluster, programs_of}
 use Rattle.om_report.specs.declared.report.Report.{Report}
-use Rattle.om_runner.specs.Released.{AreAllReleased}
-use Rattle.om_runner.specs.Reports.{AreAlongOf, AreOutputsOf, HaveAllOf}
-use Rattle.om_process.specs.Core.{IsEnd}
+use Rattle.om_report.specs.Reports.{IsReport}
 use Rattle.om_runner.specs.Telling.{AreInOrder, AreToldMade, Told, TellsAll}
 use Rattle.om_report.specs.declared.follower.FollowFault.{FollowFault}
 use Rattle.om_report.specs.declared.follower.FollowFault.TheVariants.{Run, Unwanted}
 use Rattle.om_report.specs.declared.fault.RunFault.{RunFault}
 use Rattle.om_report.specs.declared.fault.RunFault.TheVariants as running
-use Rattle.om_run_commands.proofs.RunLemmas.{is_report, ok_at}
+use Rattle.om_run_commands.proofs.RunLemmas.{ok_at}
 use Rattle.om_run_commands.specs.ClusterScript.{ClusterFile, cluster_file_line, no_settings}
 use Rattle.om_commands.specs.Command.{IsErrorOf, IsScript}
 use Rattle.om_run_commands.specs.steps.Errors.{error_of_run}
@@ -41,56 +39,31 @@ line_more form cluster a b c told t line before more is =
     in subst (Appends a c) (sym text) (Appends-trans a b c _ _ before (subst (Appends b c) is more))
 
 -- a script is answered by the lines of what its run told, and then by how it ended
-pub is_followed : (form : BytesForm) (over_clean : Type 0) (script : ClusterFile) (images : List Image) (report : Report) (statuses : List Status) (a b c : Option (List ℕ))
-    → map program_of images ≡ programs_of script.cluster
-    → AreAllReleased report.front.vec report.released.items → (over_clean → AreOutputsOf images report.released.items)
-    → length report.released.items ≡ length images
-    → length report.statuses.items ≡ length images → All IsEnd report.statuses.items
-    → (over_clean → AreAlongOf images report.statuses.items)
-    → (over_clean → HaveAllOf images report.statuses.items report.released.items)
-    → statuses ≡ report.statuses.items
-    → (told : List Told) × Appends a b (told_text form script.cluster told) × TellsAll told report.released.items
-    → Appends b c (ends_text script.cluster statuses)
-    → (text : List ℕ) × IsFollowedTo form over_clean report.statuses.items script text × Appends a c text
-is_followed form over_clean script images report statuses a b c same_programs are_released made processes number ended along all same_statuses lines ends = (
-  told_text form script.cluster lines.0 ++ ends_text script.cluster report.statuses.items,
-  (
-    record {
-      report = report;
-      is_report = is_report over_clean (programs_of script.cluster) images report same_programs are_released made processes number ended along all;
-      told = lines.0;
-      tells_all = lines.2;
-      is_text = refl;
-    },
-    (told_text form script.cluster lines.0, refl),
-  ),
-  Appends-trans a b c _ _ lines.1 (subst (λ ss. Appends b c (ends_text script.cluster ss)) same_statuses ends),
-)
-
--- so where the report is what a run answered, and the ends are written
 pub text_of_report : {E : Type 0} (form : BytesForm) (over_clean : Type 0) (script : ClusterFile) (cluster : Cluster) (images : List Image) (r : Result Report E) (report : Report)
     (statuses : List Status) (a b c : Option (List ℕ)) (same_after : Type 0)
     → r ≡ Ok report → cluster ≡ script.cluster → map program_of images ≡ programs_of script.cluster
-    → IfOk r (λ report. AreAllReleased report.front.vec report.released.items)
-    → (over_clean → IfOk r (λ report. AreOutputsOf images report.released.items)) → IfOk r (λ report. length report.released.items ≡ length images)
-    → IfOk r (λ report. length report.statuses.items ≡ length images) → IfOk r (λ report. All IsEnd report.statuses.items)
-    → (over_clean → IfOk r (λ report. AreAlongOf images report.statuses.items))
-    → (over_clean → IfOk r (λ report. HaveAllOf images report.statuses.items report.released.items))
+    → IfOk r (IsReport over_clean (map program_of images))
     → IfOk r (λ report. (told : List Told) × (same_after × Appends a b (told_text form cluster told)) × TellsAll told report.released.items)
     → statuses ≡ report.statuses.items → Appends b c (ends_text cluster statuses)
     → (text : List ℕ) × IsFollowedTo form over_clean report.statuses.items script text × Appends a c text
-text_of_report form over_clean script cluster images r report statuses a b c same_after is same programs released made processes number ended along have told same_statuses ends =
+text_of_report form over_clean script cluster images r report statuses a b c same_after is same programs is_report told same_statuses ends =
     let all = ok_at (λ report. (told : List Told) × (same_after × Appends a b (told_text form cluster told)) × TellsAll told report.released.items) r report is told in
-    is_followed form over_clean script images report statuses a b c programs
-    (ok_at (λ report. AreAllReleased report.front.vec report.released.items) r report is released)
-    (λ clean. ok_at (λ report. AreOutputsOf images report.released.items) r report is (made clean))
-    (ok_at (λ report. length report.released.items ≡ length images) r report is processes)
-    (ok_at (λ report. length report.statuses.items ≡ length images) r report is number)
-    (ok_at (λ report. All IsEnd report.statuses.items) r report is ended)
-    (λ clean. ok_at (λ report. AreAlongOf images report.statuses.items) r report is (along clean))
-    (λ clean. ok_at (λ report. HaveAllOf images report.statuses.items report.released.items) r report is (have clean))
-    same_statuses (all.0, subst (λ k. Appends a b (told_text form k all.0)) same all.1.1, all.2)
-    (subst (λ k. Appends b c (ends_text k statuses)) same ends)
+    let lines : Appends a b (told_text form script.cluster all.0) = subst (λ k. Appends a b (told_text form k all.0)) same all.1.1 in
+    let last : Appends b c (ends_text script.cluster report.statuses.items) =
+    subst (λ ss. Appends b c (ends_text script.cluster ss)) same_statuses (subst (λ k. Appends b c (ends_text k statuses)) same ends) in (
+      told_text form script.cluster all.0 ++ ends_text script.cluster report.statuses.items,
+      (
+        record {
+          report = report;
+          is_report = subst (λ ps. IsReport over_clean ps report) programs (ok_at (IsReport over_clean (map program_of images)) r report is is_report);
+          told = all.0;
+          tells_all = all.2;
+          is_text = refl;
+        },
+        (told_text form script.cluster all.0, refl),
+      ),
+      Appends-trans a b c _ _ lines last,
+    )
 
 -- of a run that comes to no end a part is written
 pub partly_run : (fault : RunFault) (part none : Type 0) → part → IsByKind (error_of_run fault) part none

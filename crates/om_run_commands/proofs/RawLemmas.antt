@@ -1,6 +1,6 @@
 -- What is written of a run of which the bytes of one process are followed.
 use Rattle.std.proofs.Common.{◌≡◌, ◌≢◌, ◌⊎◌, ℕ, zero, suc, ◌≤◌, ◌==◌, Option, None, Some, Result, Ok, Err, List, [], ◌∷◌, ◌++◌, cond, false, get_or, length, map, refl, sym, ap, subst, ◌∙◌, arith, append-nil}
-use Rattle.std.specs.Prelude.{All, Vec, IfErr, IfOk, slice_get, slice_index_or}
+use Rattle.std.specs.Prelude.{Vec, IfErr, IfOk, slice_get, slice_index_or}
 use Rattle.std.specs.List.{flat_map}
 use Rattle.std.specs.Io.KnownBytes.{Appends, Keeps}
 use Rattle.std.specs.declared.alloc.Global.{Global}
@@ -16,12 +16,10 @@ use Rattle.om_manager.specs.declared.output_log.Output.{Output}
 use Rattle.om_process.specs.Images.{program_of}
 use Rattle.om_process.specs.declared.image.Image.{Image}
 use Rattle.om_process.specs.declared.status.Status.{Status}
-use Rattle.om_process.specs.Core.{IsEnd}
 use Rattle.om_scripts.specs.Named.{place_of}
 use Rattle.om_scripts.specs.Programs.{programs_of}
 use Rattle.om_report.specs.declared.report.Report.{Report}
-use Rattle.om_runner.specs.Released.{AreAllReleased}
-use Rattle.om_runner.specs.Reports.{AreAlongOf, AreOutputsOf, HaveAllOf}
+use Rattle.om_report.specs.Reports.{IsReport}
 use Rattle.om_runner.specs.Telling.{AreInOrder, AreToldMade, Told, TellsAll, of_process, outputs_in, told_of}
 use Rattle.om_report.specs.declared.follower.FollowFault.{FollowFault}
 use Rattle.om_report.specs.declared.follower.FollowFault.TheVariants.{Run, Unwanted}
@@ -35,7 +33,7 @@ use Rattle.om_run_commands.specs.RunText.{bytes_of}
 use Rattle.om_run_commands.specs.steps.Errors.{error_of_run}
 use Rattle.om_run_commands.specs.steps.Scripts.{IsErrorOfRawScript, IsErrorOfScript}
 use Rattle.om_run_commands.proofs.FollowLemmas.{partly_of_fault}
-use Rattle.om_run_commands.proofs.RunLemmas.{is_report, ok_at}
+use Rattle.om_run_commands.proofs.RunLemmas.{ok_at}
 
 -- ---- what one more that is told adds
 own_one : (p : ℕ) (t : Told) → t.process ≡ p → of_process p (t ∷ []) ≡ t ∷ []
@@ -85,26 +83,15 @@ told_bytes p told released tells =
 pub bytes_of_report : {E : Type 0} (p : ℕ) (over_clean : Type 0) (script : ClusterFile) (images : List Image) (r : Result Report E) (report : Report)
     (a b : Option (List ℕ)) (same_after : Type 0)
     → r ≡ Ok report → map program_of images ≡ programs_of script.cluster
-    → IfOk r (λ report. AreAllReleased report.front.vec report.released.items)
-    → (over_clean → IfOk r (λ report. AreOutputsOf images report.released.items)) → IfOk r (λ report. length report.released.items ≡ length images)
-    → IfOk r (λ report. length report.statuses.items ≡ length images) → IfOk r (λ report. All IsEnd report.statuses.items)
-    → (over_clean → IfOk r (λ report. AreAlongOf images report.statuses.items))
-    → (over_clean → IfOk r (λ report. HaveAllOf images report.statuses.items report.released.items))
+    → IfOk r (IsReport over_clean (map program_of images))
     → IfOk r (λ report. (told : List Told) × (same_after × Appends a b (bytes_told p told)) × TellsAll told report.released.items)
     → (text : List ℕ) × IsBytesAnswer p over_clean report.statuses.items script text × Appends a b text
-bytes_of_report p over_clean script images r report a b same_after is programs released made processes number ended along have told =
+bytes_of_report p over_clean script images r report a b same_after is programs is_report told =
     let all = ok_at (λ report. (told : List Told) × (same_after × Appends a b (bytes_told p told)) × TellsAll told report.released.items) r report is told in (
       bytes_told p all.0,
       record {
         report = report;
-        is_report = is_report over_clean (programs_of script.cluster) images report programs
-            (ok_at (λ report. AreAllReleased report.front.vec report.released.items) r report is released)
-            (λ clean. ok_at (λ report. AreOutputsOf images report.released.items) r report is (made clean))
-            (ok_at (λ report. length report.released.items ≡ length images) r report is processes)
-            (ok_at (λ report. length report.statuses.items ≡ length images) r report is number)
-            (ok_at (λ report. All IsEnd report.statuses.items) r report is ended)
-            (λ clean. ok_at (λ report. AreAlongOf images report.statuses.items) r report is (along clean))
-            (λ clean. ok_at (λ report. HaveAllOf images report.statuses.items report.released.items) r report is (have clean));
+        is_report = subst (λ ps. IsReport over_clean ps report) programs (ok_at (IsReport over_clean (map program_of images)) r report is is_report);
         ended = refl;
         is_text = told_bytes p all.0 report.released.items all.2;
       },

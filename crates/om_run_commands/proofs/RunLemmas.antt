@@ -1,6 +1,6 @@
 -- What is read of the report of a run, and why a run of a script is refused.
 use Rattle.std.proofs.Common.{◌≡◌, ℕ, ◌<◌, ◌≤◌, None, Option, Result, Ok, Err, List, [], ◌++◌, length, get_or, map, refl, sym, ap, subst, ◌∙◌, arith}
-use Rattle.std.specs.Prelude.{All, Vec, IfOk, OnOk, slice_index_or}
+use Rattle.std.specs.Prelude.{Vec, IfOk, OnOk, slice_index_or}
 use Rattle.std.specs.List.{flat_map, range_with_len}
 use Rattle.std.specs.Io.KnownBytes.{Appends}
 use Rattle.std.specs.declared.alloc.Global.{Global}
@@ -12,16 +12,14 @@ use Rattle.om_process.specs.Process.{Program}
 use Rattle.om_process.specs.declared.image.Image.{Image}
 use Rattle.om_process.specs.declared.status.Status.{Status}
 use Rattle.om_scripts.specs.Programs.{Cluster, program_at, programs_of}
-use Rattle.om_runner.specs.Released.{AreAllMade, AreAllReleased}
-use Rattle.om_runner.specs.Reports.{AreAlongOf, AreOutputsOf, AreWholeOf, HaveAll, HaveAllOf}
-use Rattle.om_process.specs.Core.{IsEnd}
+use Rattle.om_report.specs.Reports.{IsReport, IsWholeReport}
 use Rattle.om_report.specs.declared.report.Report.{Report}
 use Rattle.om_report.specs.declared.fault.RunFault.{RunFault}
 use Rattle.om_report.specs.declared.fault.RunFault.TheVariants as running
 use Rattle.om_run_commands.specs.steps.Errors.{error_of_run}
 use Rattle.om_run_commands.specs.ClusterScript.{ClusterFile, cluster_file_line, no_settings}
 use Rattle.om_commands.specs.Command.{IsScript}
-use Rattle.om_run_commands.specs.Run.{IsErrorOfRawRun, IsErrorOfRun, IsRawAnswer, IsReport, outputs_of}
+use Rattle.om_run_commands.specs.Run.{IsErrorOfRawRun, IsErrorOfRun, IsRawAnswer, outputs_of}
 use Rattle.om_run_commands.specs.RunText.{ends_text, raw_text, run_text_in}
 use Rattle.om_run_commands.specs.steps.Lines.{released_text}
 use Rattle.om_run_commands.specs.steps.Modes.{IsToldAnswer}
@@ -39,44 +37,6 @@ outputs-at released p outputs own lt same there =
     ∙ ap {A = Vec Output Global} (λ os. map held_of os.items) there
     ∙ sym (get_or-map (λ os. map held_of os.items) released p outputs [] lt)
 
--- outputs of images are those of their programs
-made-by-programs : (programs : List Program) (images : List Image) (released : List (Vec Output Global)) → map program_of images ≡ programs
-    → AreOutputsOf images released → AreAllMade programs (length programs) released
-made-by-programs programs images released same made =
-    subst (λ ps. AreAllMade ps (length ps) released) same
-    (subst (λ n. AreAllMade (map program_of images) n released) (sym (length-map images program_of)) made)
-
--- where the outputs are as many as were made, none is left out
-all-of-whole : (images : List Image) (statuses : List Status) (released : List (Vec Output Global)) → AreWholeOf images statuses released
-    → HaveAllOf images statuses released
-all-of-whole images statuses released whole p program status outputs at_program at_status at_outputs =
-    (length outputs.items, whole p program status outputs at_program at_status at_outputs, omega arith)
-
--- what images leave out is what their programs do
-all-by-programs : (programs : List Program) (images : List Image) (statuses : List Status) (released : List (Vec Output Global)) → map program_of images ≡ programs
-    → HaveAllOf images statuses released → HaveAll programs (length programs) statuses released
-all-by-programs programs images statuses released same all =
-    subst (λ ps. HaveAll ps (length ps) statuses released) same
-    (subst (λ n. HaveAll (map program_of images) n statuses released) (sym (length-map images program_of)) all)
-
--- what a run of images ends with is what one of their programs does
-pub is_report : (over_clean : Type 0) (programs : List Program) (images : List Image) (report : Report) → map program_of images ≡ programs
-    → AreAllReleased report.front.vec report.released.items → (over_clean → AreOutputsOf images report.released.items)
-    → length report.released.items ≡ length images
-    → length report.statuses.items ≡ length images → All IsEnd report.statuses.items
-    → (over_clean → AreAlongOf images report.statuses.items)
-    → (over_clean → HaveAllOf images report.statuses.items report.released.items)
-    → IsReport over_clean programs report
-is_report over_clean programs images report same_programs are_released made processes number ended along all =
-    let long : length images ≡ length programs = sym (length-map images program_of) ∙ ap length same_programs in record {
-      released = are_released;
-      made = λ clean. made-by-programs programs images report.released.items same_programs (made clean);
-      processes = processes ∙ long;
-      statuses = number ∙ long;
-      ended = ended;
-      all = λ clean. all-by-programs programs images report.statuses.items report.released.items same_programs (all clean);
-    }
-
 -- what holds of an answer
 pub ok_at : {A E : Type 0} (P : A → Type 0) (r : Result A E) (x : A) → r ≡ Ok x → IfOk r P → P x
 ok_at P r x is holds = subst (λ answer. IfOk answer P) is holds
@@ -84,42 +44,18 @@ ok_at P r x is holds = subst (λ answer. IfOk answer P) is holds
 -- what a run of images answered is what one of their programs ends with
 pub report_of_run : {E : Type 0} (over_clean : Type 0) (programs : List Program) (images : List Image) (r : Result Report E) (report : Report)
     → r ≡ Ok report → map program_of images ≡ programs
-    → IfOk r (λ report. AreAllReleased report.front.vec report.released.items)
-    → (over_clean → IfOk r (λ report. AreOutputsOf images report.released.items)) → IfOk r (λ report. length report.released.items ≡ length images)
-    → IfOk r (λ report. length report.statuses.items ≡ length images) → IfOk r (λ report. All IsEnd report.statuses.items)
-    → (over_clean → IfOk r (λ report. AreAlongOf images report.statuses.items))
-    → (over_clean → IfOk r (λ report. AreWholeOf images report.statuses.items report.released.items))
-    → IsReport over_clean programs report
-report_of_run over_clean programs images r report is same_programs are_released made processes number ended along whole =
-    is_report over_clean programs images report same_programs
-    (ok_at (λ report. AreAllReleased report.front.vec report.released.items) r report is are_released)
-    (λ clean. ok_at (λ report. AreOutputsOf images report.released.items) r report is (made clean))
-    (ok_at (λ report. length report.released.items ≡ length images) r report is processes)
-    (ok_at (λ report. length report.statuses.items ≡ length images) r report is number)
-    (ok_at (λ report. All IsEnd report.statuses.items) r report is ended)
-    (λ clean. ok_at (λ report. AreAlongOf images report.statuses.items) r report is (along clean))
-    (λ clean. all-of-whole images report.statuses.items report.released.items
-    (ok_at (λ report. AreWholeOf images report.statuses.items report.released.items) r report is (whole clean)))
+    → IfOk r (IsWholeReport over_clean (map program_of images)) → IsReport over_clean programs report
+report_of_run over_clean programs images r report is same whole =
+    let of_images = ok_at (IsWholeReport over_clean (map program_of images)) r report is whole in
+    subst (λ ps. IsReport over_clean ps report) same of_images.is_report
 
 -- so is the report that something else comes with
 pub report_of_pair : {A E : Type 0} (over_clean : Type 0) (programs : List Program) (images : List Image) (r : Result (Report × A) E) (done : Report × A)
     → r ≡ Ok done → map program_of images ≡ programs
-    → IfOk r (λ d. AreAllReleased d.0.front.vec d.0.released.items)
-    → (over_clean → IfOk r (λ d. AreOutputsOf images d.0.released.items)) → IfOk r (λ d. length d.0.released.items ≡ length images)
-    → IfOk r (λ d. length d.0.statuses.items ≡ length images) → IfOk r (λ d. All IsEnd d.0.statuses.items)
-    → (over_clean → IfOk r (λ d. AreAlongOf images d.0.statuses.items))
-    → (over_clean → IfOk r (λ d. AreWholeOf images d.0.statuses.items d.0.released.items))
-    → IsReport over_clean programs done.0
-report_of_pair over_clean programs images r done is same_programs are_released made processes number ended along whole =
-    is_report over_clean programs images done.0 same_programs
-    (ok_at (λ d. AreAllReleased d.0.front.vec d.0.released.items) r done is are_released)
-    (λ clean. ok_at (λ d. AreOutputsOf images d.0.released.items) r done is (made clean))
-    (ok_at (λ d. length d.0.released.items ≡ length images) r done is processes)
-    (ok_at (λ d. length d.0.statuses.items ≡ length images) r done is number)
-    (ok_at (λ d. All IsEnd d.0.statuses.items) r done is ended)
-    (λ clean. ok_at (λ d. AreAlongOf images d.0.statuses.items) r done is (along clean))
-    (λ clean. all-of-whole images done.0.statuses.items done.0.released.items
-    (ok_at (λ d. AreWholeOf images d.0.statuses.items d.0.released.items) r done is (whole clean)))
+    → IfOk r (λ d. IsWholeReport over_clean (map program_of images) d.0) → IsReport over_clean programs done.0
+report_of_pair {A} over_clean programs images r done is same whole =
+    let of_images = ok_at (λ (d : Report × A). IsWholeReport over_clean (map program_of images) d.0) r done is whole in
+    subst (λ ps. IsReport over_clean ps done.0) same of_images.is_report
 
 -- the text of a report answers its script, and says how its processes ended
 pub told_of_report : (form : BytesForm) (over_clean : Type 0) (script : ClusterFile) (report : Report) (r : Result (Vec Status Global) CommandError)

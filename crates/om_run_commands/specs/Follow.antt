@@ -6,10 +6,11 @@ use Rattle.om_report.specs.declared.report.Report.{Report}
 use Rattle.om_process.specs.declared.status.Status.{Status}
 use Rattle.om_scripts.specs.Named.{place_of}
 use Rattle.om_scripts.specs.Programs.{Cluster, programs_of}
+use Rattle.om_report.specs.Reports.{IsReport}
 use Rattle.om_runner.specs.Telling.{AreInOrder, AreToldMade, TellsAll, Told, of_process}
 use Rattle.om_commands.specs.Command.{AnswersScript, IsScript}
 use Rattle.om_run_commands.specs.ClusterScript.{ClusterFile, cluster_file_line, no_settings}
-use Rattle.om_run_commands.specs.Run.{IsReport, outputs_of}
+use Rattle.om_run_commands.specs.Run.{outputs_of}
 use Rattle.om_run_commands.specs.RunText.{bytes_of, ends_text}
 use Rattle.om_commands.specs.SimText.{name_at, output_line}
 use Rattle.om_commands.specs.declared.bytes_text.BytesForm.{BytesForm}

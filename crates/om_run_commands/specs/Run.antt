@@ -1,12 +1,9 @@
 -- What the command `run` answers to the bytes of its input.
-use Rattle.std.specs.Prelude.{◌≡◌, ℕ, ◌≤◌, List, All, None, length, map}
+use Rattle.std.specs.Prelude.{◌≡◌, ℕ, ◌≤◌, List, None, length, map}
 use Rattle.om_manager.specs.Outputs.{HeldOutput, held_of}
-use Rattle.om_process.specs.Process.{Program}
 use Rattle.om_scripts.specs.Named.{place_of}
 use Rattle.om_scripts.specs.Programs.{programs_of}
-use Rattle.om_runner.specs.Released.{AreAllMade, AreAllReleased}
-use Rattle.om_runner.specs.Reports.{HaveAll}
-use Rattle.om_process.specs.Core.{IsEnd}
+use Rattle.om_report.specs.Reports.{IsReport}
 use Rattle.om_report.specs.declared.report.Report.{Report}
 use Rattle.om_commands.specs.Command.{AnswersScript, IsErrorOf, IsScript}
 use Rattle.om_run_commands.specs.ClusterScript.{ClusterFile, cluster_file_line, no_settings}
@@ -15,17 +12,6 @@ use Rattle.om_process.specs.declared.status.Status.{Status}
 use Rattle.om_commands.specs.declared.bytes_text.BytesForm.{BytesForm}
 use Rattle.om_commands.specs.declared.error.CommandError.{CommandError}
 use Rattle.om_commands.specs.declared.error.CommandError.TheVariants as errors
-
--- What a run of these programs ends with: the outputs that are released of each process are numbered from 0 without a gap,
--- each made within the front, and over clean stores each is the one of its number that its program makes; and each process
--- came to an end, over clean stores in a state along its program, and none of the outputs that it has then made is left out.
-pub record IsReport (over_clean : Type 0) (programs : List Program) (report : Report) : Type 0 where
-  pub released : AreAllReleased report.front.vec report.released.items
-  pub made : over_clean → AreAllMade programs (length programs) report.released.items
-  pub processes : length report.released.items ≡ length programs
-  pub statuses : length report.statuses.items ≡ length programs
-  pub ended : All IsEnd report.statuses.items
-  pub all : over_clean → HaveAll programs (length programs) report.statuses.items report.released.items
 
 -- the outputs of each process, each at the place that is its number
 abbrev pub outputs_of : Report → List (List HeldOutput)

@@ -2,8 +2,8 @@
 
 ghost use Rattle.std.specs.Prelude.{◌≡◌, ◌≤◌, ℕ, List, IsTrue, length, IfOk, IfErr};
 ghost use Rattle.std.specs.Io.KnownBytes.{Appends, Keeps};
+ghost use Rattle.om_report.specs.Reports.{IsReport};
 ghost use Rattle.om_scripts.specs.Programs.{programs_of};
-ghost use Rattle.om_run_commands.specs.Run.{IsReport};
 ghost use Rattle.om_run_commands.specs.steps.Modes.{IsCheckedAnswer};
 ghost use Rattle.om_run_commands.specs.steps.Scripts.{IsErrorOfCheckedScript, IsErrorOfScript};
 ghost use Rattle.om_commands.specs.Command.{IsSilent};

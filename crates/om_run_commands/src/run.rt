@@ -4,9 +4,10 @@ ghost use Rattle.std.specs.Prelude.{◌≡◌, ◌⊎◌, ◌≤◌, ℕ, List, 
 ghost use Rattle.std.specs.Io.KnownBytes.{Appends, Keeps};
 ghost use Rattle.om_interval.specs.declared.pid.TheConstants.{MAX_PROCESSES};
 ghost use Rattle.om_process.specs.Images.{program_of};
+ghost use Rattle.om_report.specs.Reports.{IsReport};
 ghost use Rattle.om_scripts.specs.Programs.{programs_of};
 ghost use Rattle.om_commands.specs.Command.{IsSilent};
-ghost use Rattle.om_run_commands.specs.Run.{IsRawAnswer, IsReport, outputs_of};
+ghost use Rattle.om_run_commands.specs.Run.{IsRawAnswer, outputs_of};
 ghost use Rattle.om_run_commands.specs.RunText.{run_text_in};
 ghost use Rattle.om_run_commands.specs.steps.Modes.{IsToldAnswer};
 ghost use Rattle.om_run_commands.specs.steps.Scripts.{IsErrorOfScript};

@@ -15,7 +15,8 @@ use Rattle.om_report.specs.declared.report.Report.{Report}
 use Rattle.om_run_commands.specs.ClusterScript.{ClusterFile}
 use Rattle.om_run_commands.specs.Follow.{IsFollowedAnswer, IsFollowedRawAnswer}
 use Rattle.om_run_commands.specs.Modes.{IsErrorIn, IsPartIn, IsRunIn}
-use Rattle.om_run_commands.specs.Run.{IsByKind, IsRawAnswer, IsReport, IsRunAnswer}
+use Rattle.om_report.specs.Reports.{IsReport}
+use Rattle.om_run_commands.specs.Run.{IsByKind, IsRawAnswer, IsRunAnswer}
 use Rattle.om_run_commands.specs.declared.mode.RunMode.{RunMode}
 use Rattle.om_run_commands.specs.declared.mode.RunMode.TheVariants as modes
 use Rattle.om_run_request.specs.Asked.{IsAnswered, IsAskedRun, IsErrorOfAsked, IsRefusedRun, WhereRefused, WhereRun, form_of, mode_of}

@@ -1,6 +1,6 @@
 -- What a report is made of.
-use Rattle.std.proofs.Common.{◌≡◌, inl, inr, ℕ, suc, ◌+◌, ◌<◌, List, [], ◌∷◌, ◌++◌, Some, sym, ap, ◌∙◌, subst, arith, append_assoc, get_or, length, map, IsTrue, Bool}
-use Rattle.std.specs.Prelude.{Vec, slice_get, Ok, Result, IfOk}
+use Rattle.std.proofs.Common.{◌≡◌, inl, inr, ℕ, suc, ◌+◌, ◌<◌, ◌≤◌, List, [], ◌∷◌, ◌++◌, Some, sym, ap, ◌∙◌, subst, arith, get_or, length, map, IsTrue, Bool}
+use Rattle.std.specs.Prelude.{All, Vec, vec_len, slice_get, Ok, Err, Result, IfOk}
 use Rattle.std.specs.declared.alloc.Global.{Global}
 use Rattle.std.proofs.lemmas.List.{length-map}
 use Rattle.std.proofs.lemmas.Option.{get_or_from_slice_get, same_Some, slice_get-get_or, slice_get_cases, slice_get_within}
@@ -10,10 +10,12 @@ use Rattle.om_process.specs.declared.status.Status.{Status}
 use Rattle.om_board.proofs.ListLemmas.{map_get, map_had, more_had}
 use Rattle.om_manager.specs.declared.output_log.Output.{Output}
 use Rattle.om_process.specs.Process.{Program}
-use Rattle.std.proofs.lemmas.Result.{IfOk-weaker}
-use Rattle.om_report.specs.Released.{AreAllMade}
-use Rattle.om_runner.specs.Reports.{AreAlongOf, AreAlongOver, AreOutputsOf, AreWholeOf, HaveAllOf, IsLastOn, IsStatusAlong, AreWholeOver}
+use Rattle.om_report.specs.Released.{AreAllMade, AreAllReleased}
+use Rattle.om_report.specs.declared.report.Report.{Report}
+use Rattle.om_report.specs.Reports.{AreWhole, IsReport, IsWholeReport, LeaveNoneOut}
+use Rattle.om_runner.specs.Reports.{AreWholeOver}
 use Rattle.om_node.specs.Ends.{IsWholeRun}
+use Rattle.om_node.specs.Nodes.{AreAlwaysClean}
 use Rattle.om_board.specs.Boards.{IsBoard}
 use Rattle.om_board.specs.Fronts.{front_of}
 use Rattle.om_board.specs.declared.front.Front.{Front}
@@ -22,7 +24,8 @@ use Rattle.om_process.specs.Core.{IsEnd}
 use Rattle.om_board.specs.Inboxes.{Traffic, Takings}
 use Rattle.om_worker.specs.declared.finished.Finished.{Finished}
 use Rattle.om_worker_parts.specs.declared.network.Ends.{Ends}
-use Rattle.om_runner.specs.steps.Ends.{AreEndsOf, HaveAllOver}
+use Rattle.om_runner.specs.declared.results.Parts.{Parts}
+use Rattle.om_runner.specs.steps.Ends.{AreEndsOf, AreParts}
 use Rattle.om_worker.specs.Ends.{IsEndOf}
 use Rattle.om_report.specs.Harvests.{AreNoFewer, AreOwn, HarvestState, harvested}
 use Rattle.om_worker_parts.specs.Network.{ArePuts, AreTakes, IsNetwork, Lines}
@@ -152,75 +155,88 @@ all_leaves {K = K} {S = S} is_clean images lines n results fs puts takes network
 pub ends_at : (n : ℕ) (lines : Lines) (ends : List Ends) → IsWired n lines ends → (k : ℕ) (e : Ends) → k < length ends → HasEnds n lines k (get_or ends k e)
 ends_at n lines ends is k e lt = is.have k (get_or ends k e) (slice_get-get_or ends k e lt)
 
--- where the outputs are as many as were made, none is left out; so where there are more
-pub have_all : {S : Type 0} (is_clean : S → Bool) (images : List Image) (statuses : List Status) (released : List (Vec Output Global)) (stores : List S)
-    → AreWholeOver is_clean images statuses released stores → HaveAllOver is_clean images statuses released stores
-have_all is_clean images statuses released stores whole p image status outputs store at_image at_status at_outputs at_store clean =
-    (length outputs.items, whole p image status outputs store at_image at_status at_outputs at_store clean, omega arith)
+-- ---- reports
+as_programs : (programs : List Program) (images : List Image) → programs ≡ map program_of images → length images ≡ length programs
+as_programs programs images same = sym (length-map images program_of) ∙ ap length (sym same)
 
-pub have_more : {S : Type 0} (is_clean : S → Bool) (images : List Image) (statuses : List Status) (few released : List (Vec Output Global)) (stores : List S)
-    → length few ≡ length images → AreNoFewer few released
-    → AreWholeOver is_clean images statuses few stores → HaveAllOver is_clean images statuses released stores
-have_more is_clean images statuses few released stores many less whole p image status outputs store at_image at_status at_outputs at_store clean =
+-- where every store is clean, the outputs of all are as many as were made
+whole_always : {S : Type 0} (is_clean : S → Bool) (programs : List Program) (images : List Image) (statuses : List Status) (released : List (Vec Output Global))
+    (stores : List S) → programs ≡ map program_of images → length stores ≡ length images → AreWholeOver is_clean images statuses released stores
+    → AreAlwaysClean is_clean → AreWhole programs statuses released
+whole_always is_clean programs images statuses released stores same many whole always p program status outputs at_program at_status at_outputs =
+    let image = map_had program_of images p program (subst (λ l. slice_get l p ≡ Some program) same at_program) in
+    elim (slice_get_cases stores p).1 [
+      | inl store ↦
+          subst (λ n. IsWholeRun program p n status (length outputs.items)) (as_programs programs images same)
+          (subst (λ q. IsWholeRun q p (length images) status (length outputs.items)) image.2
+          (whole p image.0 status outputs store.0 image.1 at_status at_outputs store.2 (always store.0)))
+      | inr past ↦ let l = past.0 in let lt = slice_get_within images p image.0 image.1 in absurd (omega arith)
+    ]
+
+-- where they are as many, none is left out; so where there are more
+none_left_out : (programs : List Program) (statuses : List Status) (few released : List (Vec Output Global)) → length few ≡ length programs → AreNoFewer few released
+    → AreWhole programs statuses few → LeaveNoneOut programs statuses released
+none_left_out programs statuses few released many less whole p program status outputs at_program at_status at_outputs =
     elim (slice_get_cases few p).1 [
-      | inl low ↦
-          (length low.0.items, whole p image status low.0 store at_image at_status low.2 at_store clean, less p low.0 outputs low.2 at_outputs)
-      | inr past ↦ let l = past.0 in let lt = slice_get_within images p image at_image in absurd (omega arith)
+      | inl low ↦ (length low.0.items, whole p program status low.0 at_program at_status low.2, less p low.0 outputs low.2 at_outputs)
+      | inr past ↦ let l = past.0 in let lt = slice_get_within programs p program at_program in absurd (omega arith)
     ]
 
--- and the statuses are those of states along the images
-pub all_along : {S : Type 0} (is_clean : S → Bool) (images : List Image) (statuses : List Status) (released : List (Vec Output Global)) (stores : List S)
-    → length released ≡ length images → HaveAllOver is_clean images statuses released stores → AreAlongOver is_clean images statuses stores
-all_along is_clean images statuses released stores many all p image status store at_image at_status at_store clean =
-    elim (slice_get_cases released p).1 [
-      | inl outputs ↦ let run = all p image status outputs.0 store at_image at_status outputs.2 at_store clean in (run.1.0, run.1.1, run.1.2, run.1.3)
-      | inr past ↦ let l = past.0 in let lt = slice_get_within images p image at_image in absurd (omega arith)
-    ]
+no_fewer : (released : List (Vec Output Global)) → AreNoFewer released released
+no_fewer released p low high at_low at_high = let same : low ≡ high = same_Some low high (sym at_low ∙ at_high) in subst (λ (v : Vec Output Global). length low.items ≤ length v.items) same (omega arith)
 
--- where every store is clean, all are
-pub whole_always : {S : Type 0} (is_clean : S → Bool) (images : List Image) (statuses : List Status) (released : List (Vec Output Global)) (stores : List S)
-    → length stores ≡ length images → AreWholeOver is_clean images statuses released stores → ((s : S) → IsTrue (is_clean s))
-    → AreWholeOf images statuses released
-whole_always is_clean images statuses released stores many whole always p program status outputs at_program at_status at_outputs =
-    let image = map_had program_of images p program at_program in
-    elim (slice_get_cases stores p).1 [
-      | inl store ↦
-          subst (λ q. IsWholeRun q p (length images) status (length outputs.items)) image.2
-          (whole p image.0 status outputs store.0 image.1 at_status at_outputs store.2 (always store.0))
-      | inr past ↦ let l = past.0 in let lt = slice_get_within images p image.0 image.1 in absurd (omega arith)
-    ]
+-- what all workers brought back, where each had ended well, with the front that was read then
+pub whole_report : {S : Type 0} (is_clean : S → Bool) (over_clean : Type 0) (programs : List Program) (n : ℕ) (images : List Image)
+    (released : Vec (Vec Output Global) Global) (statuses : Vec Status Global) (front : Front) (stores : List S)
+    → programs ≡ map program_of images → length images ≡ n → (over_clean → AreAlwaysClean is_clean)
+    → AreAllReleased front.vec released.items → (over_clean → AreAllMade programs n released.items)
+    → UnderLock n (λ before after. (front ≡ front_of before.manager) × (after ≡ before))
+    → length released.items ≡ length images → length statuses.items ≡ length images → All IsEnd statuses.items → length stores ≡ length images
+    → AreWholeOver is_clean images statuses.items released.items stores
+    → IsWholeReport over_clean programs (record { released = released; statuses = statuses; front = front })
+whole_report is_clean over_clean programs n images released statuses front stores same many clean are_released made under processes number ended long whole =
+    let as_many : length images ≡ length programs = as_programs programs images same in
+    let n_is : n ≡ length programs = sym many ∙ as_many in
+    let all : over_clean → AreWhole programs statuses.items released.items =
+    λ over. whole_always is_clean programs images statuses.items released.items stores same long whole (clean over) in
+    record {
+      is_report = record {
+        processes = processes ∙ as_many;
+        statuses = number ∙ as_many;
+        ended = ended;
+        released = are_released;
+        made = λ over. subst (λ k. AreAllMade programs k released.items) n_is (made over);
+        all = λ over. none_left_out programs statuses.items released.items released.items (processes ∙ as_many) (no_fewer released.items) (all over);
+      };
+      whole = all;
+      last = (under.0, subst (λ m. IsBoard m under.0) n_is under.2, under.3.0);
+    }
 
-pub all_always : {S : Type 0} (is_clean : S → Bool) (images : List Image) (statuses : List Status) (released : List (Vec Output Global)) (stores : List S)
-    → length stores ≡ length images → HaveAllOver is_clean images statuses released stores → ((s : S) → IsTrue (is_clean s))
-    → HaveAllOf images statuses released
-all_always is_clean images statuses released stores many all always p program status outputs at_program at_status at_outputs =
-    let image = map_had program_of images p program at_program in
-    elim (slice_get_cases stores p).1 [
-      | inl store ↦
-          let run = all p image.0 status outputs store.0 image.1 at_status at_outputs store.2 (always store.0) in
-          (run.0, subst (λ q. IsWholeRun q p (length images) status run.0) image.2 run.1, run.2)
-      | inr past ↦ let l = past.0 in let lt = slice_get_within images p image.0 image.1 in absurd (omega arith)
-    ]
-
-pub along_always : {S : Type 0} (is_clean : S → Bool) (images : List Image) (statuses : List Status) (stores : List S) → length stores ≡ length images
-    → AreAlongOver is_clean images statuses stores → ((s : S) → IsTrue (is_clean s)) → AreAlongOf images statuses
-along_always is_clean images statuses stores many along always p program status at_program at_status =
-    let image = map_had program_of images p program at_program in
-    elim (slice_get_cases stores p).1 [
-      | inl store ↦
-          subst (λ q. IsStatusAlong q p (length images) status) image.2
-          (along p image.0 status store.0 image.1 at_status store.2 (always store.0))
-      | inr past ↦ let l = past.0 in let lt = slice_get_within images p image.0 image.1 in absurd (omega arith)
-    ]
-
--- where the programs are those of the images, the outputs are theirs
-pub made_of_images : {A E : Type 0} (released : A → List (Vec Output Global)) (programs : List Program) (n : ℕ) (images : List Image) (result : Result A E)
-    → programs ≡ map program_of images → n ≡ length images → IfOk result (λ r. AreAllMade programs n (released r)) → IfOk result (λ r. AreOutputsOf images (released r))
-made_of_images released programs n images result are many made =
-    IfOk-weaker result _ _ (λ r all. subst (λ ps. AreAllMade ps (length images) (released r)) are (subst (λ k. AreAllMade programs k (released r)) many all)) made
-
--- the front that was read under the lock of a board of so many processes
-pub last_on : {A E : Type 0} (front : A → Front) (k n : ℕ) (result : Result A E) → k ≡ n
-    → IfOk result (λ r. UnderLock k (λ before after. (front r ≡ front_of before.manager) × (after ≡ before))) → IfOk result (λ r. IsLastOn n (front r))
-last_on front k n result same last =
-    IfOk-weaker result _ _ (λ r under. (under.0, subst (λ m. IsBoard m under.0) same under.2, under.3.0)) last
+-- what a follower was told, which is no less than all workers brought back
+pub followed_report : {E K S : Type 0} (is_clean : S → Bool) (over_clean : Type 0) (programs : List Program) (n : ℕ) (images : List Image) (lines : Lines)
+    (parts : Parts K S) (harvests : Vec HarvestState Global) (statuses : Vec Status Global) (r : Result Report E)
+    → programs ≡ map program_of images → length images ≡ n → (over_clean → AreAlwaysClean is_clean)
+    → AreParts is_clean images lines parts → harvests ≡ parts.harvests → statuses ≡ parts.statuses
+    → IfOk r (λ report. AreAllReleased report.front.vec report.released.items)
+    → (over_clean → IfOk r (λ report. AreAllMade programs n report.released.items))
+    → IfOk r (λ report. AreNoFewer (harvested harvests.items) report.released.items)
+    → IfOk r (λ report. vec_len report.released ≡ n) → IfOk r (λ report. report.statuses ≡ statuses)
+    → IfOk r (IsReport over_clean programs)
+followed_report is_clean over_clean programs n images lines parts harvests statuses (Ok report) same many clean are same_harvests same_statuses are_released made less processes kept =
+    let as_many : length images ≡ length programs = as_programs programs images same in
+    let few = harvested parts.harvests.items in
+    let told : report.statuses ≡ parts.statuses = kept ∙ same_statuses in
+    let more : AreNoFewer few report.released.items =
+    subst (λ (v : Vec HarvestState Global). AreNoFewer (harvested v.items) report.released.items) same_harvests less in
+    let of_few : length few ≡ length programs = length-map parts.harvests.items (λ (h : HarvestState). h.outputs) ∙ are.harvests ∙ as_many in
+    record {
+      processes = sym report.released.ok.0 ∙ processes ∙ sym many ∙ as_many;
+      statuses = ap (λ (v : Vec Status Global). length v.items) told ∙ are.statuses ∙ as_many;
+      ended = subst (λ (v : Vec Status Global). All IsEnd v.items) (sym told) are.ended;
+      released = are_released;
+      made = λ over. subst (λ k. AreAllMade programs k report.released.items) (sym many ∙ as_many) (made over);
+      all = λ over. subst (λ (v : Vec Status Global). LeaveNoneOut programs v.items report.released.items) (sym told)
+          (none_left_out programs parts.statuses.items few report.released.items of_few more
+          (whole_always is_clean programs images parts.statuses.items few parts.stores.items same are.stores are.whole (clean over)));
+    }
+followed_report is_clean over_clean programs n images lines parts harvests statuses (Err e) same many clean are same_harvests same_statuses are_released made less processes kept = tt

@@ -1,20 +1,18 @@
 //! A cluster, a thread for each process.
 
-ghost use Rattle.std.specs.Prelude.{◌≡◌, ◌<◌, ◌≤◌, All, IfErr, IfOk, IsTrue, OnOk, Some, length, map, vec_len};
-ghost use Rattle.om_board.specs.Fronts.{front_of};
+ghost use Rattle.std.specs.Prelude.{◌≡◌, ◌≤◌, IfErr, IfOk, OnOk, length, map, vec_len};
 ghost use Rattle.om_interval.specs.declared.pid.TheConstants.{MAX_PROCESSES};
 ghost use Rattle.om_process.specs.Images.{program_of};
-ghost use Rattle.om_report.specs.Released.{AreAllMade, AreAllReleased};
-ghost use Rattle.om_runner.specs.Reports.{AreAlongOf, AreAlongOver, AreOutputsOf, AreWholeOf, AreWholeOver, IsLastOn};
 ghost use Rattle.om_report.specs.Faults.{IsFaultOf};
-ghost use Rattle.om_process.specs.Core.{IsEnd};
+ghost use Rattle.om_report.specs.Harvests.{harvested};
 ghost use Rattle.om_report.specs.declared.fault.RunFault.TheVariants.{Memory};
-ghost use Rattle.om_report.specs.Locks.{UnderLock};
-ghost use Rattle.om_worker.specs.Ends.{IsGiven};
-ghost use Rattle.om_report.specs.Harvests.{AreOwn, harvested};
 ghost use Rattle.om_node.specs.Nodes.{AreAlwaysClean};
-ghost use Rattle.om_runner.specs.steps.Settling.{ArePasses, AreSettled};
+ghost use Rattle.om_worker.specs.Ends.{IsGiven};
 ghost use Rattle.om_worker_parts.specs.Wiring.{IsWired};
+ghost use Rattle.om_report.specs.Reports.{IsWholeReport};
+ghost use Rattle.om_runner.specs.Reports.{AreWholeOver};
+ghost use Rattle.om_runner.specs.steps.Ends.{AreParts};
+ghost use Rattle.om_runner.specs.steps.Settling.{ArePasses, AreSettled};
 
 use crate::main_task::{MainTask, OnlyJoin};
 use crate::results::{Parts, gathered};
@@ -55,15 +53,7 @@ pub(crate) fn run_workers<
     requires passes { vec_len passes ≡ K.cell.n }
     requires some { 1 ≤ K.cell.n }
     requires same { B.Becomes beside beside }
-    ensures passes { IfOk result.0 (λ parts. ArePasses (length cluster.now.inboxes.now) cluster.now.inboxes.now
-        parts.puts.items parts.takes.items) }
-    ensures statuses { IfOk result.0 (λ parts. length parts.statuses.items ≡ length cluster.now.plan.now.images.items) }
-    ensures stores { IfOk result.0 (λ parts. length parts.stores.items ≡ length cluster.now.plan.now.images.items) }
-    ensures ended { IfOk result.0 (λ parts. All IsEnd parts.statuses.items) }
-    ensures harvests { IfOk result.0 (λ parts. length parts.harvests.items ≡ length cluster.now.plan.now.images.items) }
-    ensures of_each { IfOk result.0 (λ parts. AreOwn parts.harvests.items) }
-    ensures whole { IfOk result.0 (λ parts. AreWholeOver O.Store.is_clean cluster.now.plan.now.images.items
-        parts.statuses.items (harvested parts.harvests.items) parts.stores.items) }
+    ensures parts { IfOk result.0 (AreParts O.Store.is_clean cluster.now.plan.now.images.items cluster.now.inboxes.now) }
     ensures given { OnOk result.0 (IsGiven cluster.now.plan.now) }
     ensures fault { IfErr result.0 (IsFaultOf K.cell.n) }
     ensures beside { B.Becomes beside result.1 }
@@ -112,24 +102,14 @@ fn close<K: Naming, R: Wait, G: Gate, O: Opener<R>>(
     parts: Parts<K, O::Store>,
 ) -> Result<(Report, Vec<O::Store>, Vec<Witness>, Vec<Vec<TakePass>>), RunFault>
     requires images { length cluster.now.plan.now.images.items ≡ K.cell.n }
-    requires passes { ArePasses (length cluster.now.inboxes.now) cluster.now.inboxes.now parts.puts.items parts.takes.items }
-    requires statuses { length parts.statuses.items ≡ length cluster.now.plan.now.images.items }
-    requires stores { length parts.stores.items ≡ length cluster.now.plan.now.images.items }
-    requires ended { All IsEnd parts.statuses.items }
-    requires harvests { length parts.harvests.items ≡ length cluster.now.plan.now.images.items }
-    requires of_each { AreOwn parts.harvests.items }
-    requires whole { AreWholeOver O.Store.is_clean cluster.now.plan.now.images.items parts.statuses.items
-        (harvested parts.harvests.items) parts.stores.items }
+    requires programs { K.programs ≡ map program_of cluster.now.plan.now.images.items }
+    requires clean { K.OverClean → AreAlwaysClean O.Store.is_clean }
+    requires parts { AreParts O.Store.is_clean cluster.now.plan.now.images.items cluster.now.inboxes.now parts }
     ensures settled { IfOk result (λ r. AreSettled (length parts.puts.items) parts.puts.items parts.takes.items r.3.items) }
     ensures outputs { IfOk result (λ r. r.0.released.items ≡ harvested parts.harvests.items) }
     ensures each { IfOk result (λ r. r.0.statuses ≡ parts.statuses) }
-    ensures released { IfOk result (λ r. AreAllReleased r.0.front.vec r.0.released.items) }
-    ensures last { IfOk result (λ r. UnderLock K.cell.n (λ before after. (r.0.front ≡ front_of before.manager) × (after ≡ before))) }
-    ensures made { K.OverClean → IfOk result (λ r. AreAllMade K.programs K.cell.n r.0.released.items) }
-    ensures processes { IfOk result (λ r. length r.0.released.items ≡ length cluster.now.plan.now.images.items) }
-    ensures statuses { IfOk result (λ r. length r.0.statuses.items ≡ length cluster.now.plan.now.images.items) }
+    ensures report { IfOk result (λ r. IsWholeReport K.OverClean K.programs r.0) }
     ensures stores { IfOk result (λ r. length r.1.items ≡ length cluster.now.plan.now.images.items) }
-    ensures ended { IfOk result (λ r. All IsEnd r.0.statuses.items) }
     ensures whole { IfOk result (λ r. AreWholeOver O.Store.is_clean cluster.now.plan.now.images.items r.0.statuses.items
         r.0.released.items r.1.items) }
     ensures fault { IfErr result (λ f. f ≡ Memory) }
@@ -167,13 +147,8 @@ fn run_named<
     requires few { length plan.now.images.items ≤ MAX_PROCESSES }
     requires programs { K.programs ≡ map program_of plan.now.images.items }
     requires clean { K.OverClean → AreAlwaysClean O.Store.is_clean }
-    ensures released { IfOk result (λ r. AreAllReleased r.0.front.vec r.0.released.items) }
-    ensures made { K.OverClean → IfOk result (λ r. AreOutputsOf plan.now.images.items r.0.released.items) }
-    ensures last { IfOk result (λ r. IsLastOn (length plan.now.images.items) r.0.front) }
-    ensures processes { IfOk result (λ r. length r.0.released.items ≡ length plan.now.images.items) }
-    ensures statuses { IfOk result (λ r. length r.0.statuses.items ≡ length plan.now.images.items) }
+    ensures report { IfOk result (λ r. IsWholeReport K.OverClean K.programs r.0) }
     ensures stores { IfOk result (λ r. length r.1.items ≡ length plan.now.images.items) }
-    ensures ended { IfOk result (λ r. All IsEnd r.0.statuses.items) }
     ensures whole { IfOk result (λ r. AreWholeOver O.Store.is_clean plan.now.images.items r.0.statuses.items
         r.0.released.items r.1.items) }
     ensures given { OnOk result (IsGiven plan.now) }
@@ -203,7 +178,7 @@ fn run_named<
 }
 
 /// Runs a cluster as [`run_cluster`] does, and hands back the store of each process beside the report. Where a process's store
-/// is clean, its status is that of a state along its image.
+/// is clean, it comes to its status along its image, and its outputs are as many as it has then made, whatever the others' are.
 pub fn run_and_keep_stores<R: Threads + Wait + Clock + Sync, G: Gate + Sync, O: Opener<R> + Sync>(
     rt: &R,
     alloc: Global,
@@ -213,21 +188,10 @@ pub fn run_and_keep_stores<R: Threads + Wait + Clock + Sync, G: Gate + Sync, O: 
 ) -> Result<(Report, Vec<O::Store>), RunFault>
     requires some { 1 ≤ length config.now.images.items }
     requires few { length config.now.images.items ≤ MAX_PROCESSES }
-    ensures released { IfOk result (λ r. AreAllReleased r.0.front.vec r.0.released.items) }
-    ensures made { ((store : O.Store) → IsTrue (O.Store.is_clean store))
-        → IfOk result (λ r. AreOutputsOf config.now.images.items r.0.released.items) }
-    ensures processes { IfOk result (λ r. length r.0.released.items ≡ length config.now.images.items) }
-    ensures statuses { IfOk result (λ r. length r.0.statuses.items ≡ length config.now.images.items) }
+    ensures report { IfOk result (λ r. IsWholeReport (AreAlwaysClean O.Store.is_clean) (map program_of config.now.images.items) r.0) }
     ensures stores { IfOk result (λ r. length r.1.items ≡ length config.now.images.items) }
-    ensures ended { IfOk result (λ r. All IsEnd r.0.statuses.items) }
-    ensures along { IfOk result (λ r. AreAlongOver O.Store.is_clean config.now.images.items r.0.statuses.items r.1.items) }
-    ensures whole { ((store : O.Store) → IsTrue (O.Store.is_clean store))
-        → IfOk result (λ r. AreWholeOf config.now.images.items r.0.statuses.items r.0.released.items) }
-    ensures whole_over { IfOk result (λ r. AreWholeOver O.Store.is_clean config.now.images.items r.0.statuses.items
-        r.0.released.items r.1.items) }
-    ensures last { IfOk result (λ r. IsLastOn (length config.now.images.items) r.0.front) }
-    ensures turns { OnOk result (1 ≤ config.now.turns) }
-    ensures gate { OnOk result (1 ≤ config.now.gate_turns) }
+    ensures whole { IfOk result (λ r. AreWholeOver O.Store.is_clean config.now.images.items r.0.statuses.items r.0.released.items r.1.items) }
+    ensures given { OnOk result (IsGiven config.now) }
     ensures fault { IfErr result (IsFaultOf (length config.now.images.items)) }
 {
     let Ok(blank) = Blank::new(alloc, config.images.len()) else {
@@ -262,19 +226,8 @@ pub fn run_and_keep_witnesses<
 ) -> Result<(Report, Vec<Witness>), RunFault>
     requires some { 1 ≤ length config.now.images.items }
     requires few { length config.now.images.items ≤ MAX_PROCESSES }
-    ensures released { IfOk result (λ r. AreAllReleased r.0.front.vec r.0.released.items) }
-    ensures made { ((store : O.Store) → IsTrue (O.Store.is_clean store))
-        → IfOk result (λ r. AreOutputsOf config.now.images.items r.0.released.items) }
-    ensures processes { IfOk result (λ r. length r.0.released.items ≡ length config.now.images.items) }
-    ensures statuses { IfOk result (λ r. length r.0.statuses.items ≡ length config.now.images.items) }
-    ensures ended { IfOk result (λ r. All IsEnd r.0.statuses.items) }
-    ensures along { ((store : O.Store) → IsTrue (O.Store.is_clean store))
-        → IfOk result (λ r. AreAlongOf config.now.images.items r.0.statuses.items) }
-    ensures whole { ((store : O.Store) → IsTrue (O.Store.is_clean store))
-        → IfOk result (λ r. AreWholeOf config.now.images.items r.0.statuses.items r.0.released.items) }
-    ensures last { IfOk result (λ r. IsLastOn (length config.now.images.items) r.0.front) }
-    ensures turns { OnOk result (1 ≤ config.now.turns) }
-    ensures gate { OnOk result (1 ≤ config.now.gate_turns) }
+    ensures report { IfOk result (λ r. IsWholeReport (AreAlwaysClean O.Store.is_clean) (map program_of config.now.images.items) r.0) }
+    ensures given { OnOk result (IsGiven config.now) }
     ensures fault { IfErr result (IsFaultOf (length config.now.images.items)) }
 {
     let Ok(blank) = Blank::new(alloc, config.images.len()) else {
@@ -308,19 +261,8 @@ pub fn run_and_record<R: Threads + Wait + Clock + Sync, G: Gate + Sync, O: Opene
 ) -> Result<Report, RunFault>
     requires some { 1 ≤ length config.now.images.items }
     requires few { length config.now.images.items ≤ MAX_PROCESSES }
-    ensures released { IfOk result (λ report. AreAllReleased report.front.vec report.released.items) }
-    ensures made { ((store : O.Store) → IsTrue (O.Store.is_clean store))
-        → IfOk result (λ report. AreOutputsOf config.now.images.items report.released.items) }
-    ensures processes { IfOk result (λ report. length report.released.items ≡ length config.now.images.items) }
-    ensures statuses { IfOk result (λ report. length report.statuses.items ≡ length config.now.images.items) }
-    ensures ended { IfOk result (λ report. All IsEnd report.statuses.items) }
-    ensures along { ((store : O.Store) → IsTrue (O.Store.is_clean store))
-        → IfOk result (λ report. AreAlongOf config.now.images.items report.statuses.items) }
-    ensures whole { ((store : O.Store) → IsTrue (O.Store.is_clean store))
-        → IfOk result (λ report. AreWholeOf config.now.images.items report.statuses.items report.released.items) }
-    ensures last { IfOk result (λ report. IsLastOn (length config.now.images.items) report.front) }
-    ensures turns { OnOk result (1 ≤ config.now.turns) }
-    ensures gate { OnOk result (1 ≤ config.now.gate_turns) }
+    ensures report { IfOk result (IsWholeReport (AreAlwaysClean O.Store.is_clean) (map program_of config.now.images.items)) }
+    ensures given { OnOk result (IsGiven config.now) }
     ensures fault { IfErr result (IsFaultOf (length config.now.images.items)) }
 {
     let Ok(blank) = Blank::new(alloc, config.images.len()) else {
@@ -360,19 +302,8 @@ pub fn run_cluster<R: Threads + Wait + Clock + Sync, G: Gate + Sync, O: Opener<R
 ) -> Result<Report, RunFault>
     requires some { 1 ≤ length config.now.images.items }
     requires few { length config.now.images.items ≤ MAX_PROCESSES }
-    ensures released { IfOk result (λ report. AreAllReleased report.front.vec report.released.items) }
-    ensures made { ((store : O.Store) → IsTrue (O.Store.is_clean store))
-        → IfOk result (λ report. AreOutputsOf config.now.images.items report.released.items) }
-    ensures processes { IfOk result (λ report. length report.released.items ≡ length config.now.images.items) }
-    ensures statuses { IfOk result (λ report. length report.statuses.items ≡ length config.now.images.items) }
-    ensures ended { IfOk result (λ report. All IsEnd report.statuses.items) }
-    ensures along { ((store : O.Store) → IsTrue (O.Store.is_clean store))
-        → IfOk result (λ report. AreAlongOf config.now.images.items report.statuses.items) }
-    ensures whole { ((store : O.Store) → IsTrue (O.Store.is_clean store))
-        → IfOk result (λ report. AreWholeOf config.now.images.items report.statuses.items report.released.items) }
-    ensures last { IfOk result (λ report. IsLastOn (length config.now.images.items) report.front) }
-    ensures turns { OnOk result (1 ≤ config.now.turns) }
-    ensures gate { OnOk result (1 ≤ config.now.gate_turns) }
+    ensures report { IfOk result (IsWholeReport (AreAlwaysClean O.Store.is_clean) (map program_of config.now.images.items)) }
+    ensures given { OnOk result (IsGiven config.now) }
     ensures fault { IfErr result (IsFaultOf (length config.now.images.items)) }
 {
     let (report, _) = run_and_keep_stores(rt, alloc, config, gate, opener)?;

@@ -1,18 +1,14 @@
 //! A cluster whose outputs are told as they are released.
 
-ghost use Rattle.std.specs.Prelude.{◌≡◌, ◌≢◌, ◌≤◌, [], All, IfErr, IfOk, IsTrue, List, length, map};
+ghost use Rattle.std.specs.Prelude.{◌≡◌, ◌≢◌, ◌≤◌, [], IfErr, IfOk, List, length, map};
 ghost use Rattle.om_interval.specs.declared.pid.TheConstants.{MAX_PROCESSES};
 ghost use Rattle.om_process.specs.Images.{program_of};
-ghost use Rattle.om_report.specs.Released.{AreAllMade, AreAllReleased};
-ghost use Rattle.om_runner.specs.Reports.{AreAlongOf, AreOutputsOf, HaveAllOf, AreWholeOver};
-ghost use Rattle.om_process.specs.Core.{IsEnd};
+ghost use Rattle.om_report.specs.Following.{IsFollowed};
 ghost use Rattle.om_report.specs.Telling.{AreInOrder, AreToldMade, TellsAll, Told};
 ghost use Rattle.om_report.specs.declared.follower.FollowFault.TheVariants.{Unwanted};
-ghost use Rattle.om_runner.specs.steps.Ends.{HaveAllOver};
-ghost use Rattle.om_report.specs.Following.{IsFollowed};
-ghost use Rattle.om_report.specs.Harvests.{AreOwn, harvested};
 ghost use Rattle.om_node.specs.Nodes.{AreAlwaysClean};
-ghost use Rattle.om_runner.specs.steps.Settling.{ArePasses};
+ghost use Rattle.om_report.specs.Reports.{IsReport};
+ghost use Rattle.om_runner.specs.steps.Ends.{AreParts};
 
 use crate::cluster::{run_workers, settled};
 use crate::main_task::MainTask;
@@ -44,32 +40,19 @@ impl<'h, K: Naming, R: Wait, F: Follower> MainTask<K, R> for Following<'h, K, F>
     }
 }
 
-// All workers have ended: the follower is told of the rest, which they brought back. With the report of what it was told, and the
-// stores.
+// All workers have ended: the follower is told of the rest, which they brought back. With the report of what it was told.
 fn close<K: Naming, R: Wait, G, O: Opener<R>, F: Follower>(
     cluster: &Cluster<'_, K, R, G, O>,
     parts: Result<Parts<K, O::Store>, RunFault>,
     following: Following<'_, K, F>,
-) -> (Result<(Report, Vec<O::Store>), FollowFault>, F)
+) -> (Result<Report, FollowFault>, F)
     requires images { length cluster.now.plan.now.images.items ≡ K.cell.n }
-    requires passes { IfOk parts (λ p. ArePasses (length cluster.now.inboxes.now) cluster.now.inboxes.now p.puts.items p.takes.items) }
-    requires statuses { IfOk parts (λ p. length p.statuses.items ≡ length cluster.now.plan.now.images.items) }
-    requires stores { IfOk parts (λ p. length p.stores.items ≡ length cluster.now.plan.now.images.items) }
-    requires ended { IfOk parts (λ p. All IsEnd p.statuses.items) }
-    requires harvests { IfOk parts (λ p. length p.harvests.items ≡ length cluster.now.plan.now.images.items) }
-    requires of_each { IfOk parts (λ p. AreOwn p.harvests.items) }
-    requires whole { IfOk parts (λ p. AreWholeOver O.Store.is_clean cluster.now.plan.now.images.items p.statuses.items
-        (harvested p.harvests.items) p.stores.items) }
-    ensures released { IfOk result.0 (λ r. AreAllReleased r.0.front.vec r.0.released.items) }
-    ensures made { K.OverClean → IfOk result.0 (λ r. AreAllMade K.programs K.cell.n r.0.released.items) }
-    ensures processes { IfOk result.0 (λ r. length r.0.released.items ≡ length cluster.now.plan.now.images.items) }
-    ensures statuses { IfOk result.0 (λ r. length r.0.statuses.items ≡ length cluster.now.plan.now.images.items) }
-    ensures stores { IfOk result.0 (λ r. length r.1.items ≡ length cluster.now.plan.now.images.items) }
-    ensures ended { IfOk result.0 (λ r. All IsEnd r.0.statuses.items) }
-    ensures all { IfOk result.0 (λ r. HaveAllOver O.Store.is_clean cluster.now.plan.now.images.items r.0.statuses.items
-        r.0.released.items r.1.items) }
+    requires programs { K.programs ≡ map program_of cluster.now.plan.now.images.items }
+    requires clean { K.OverClean → AreAlwaysClean O.Store.is_clean }
+    requires parts { IfOk parts (AreParts O.Store.is_clean cluster.now.plan.now.images.items cluster.now.inboxes.now) }
+    ensures report { IfOk result.0 (IsReport K.OverClean K.programs) }
     ensures told { (start : F) → IsFollowed F.Tells start following.entry.lanes.items following.entry.fault following.entry.follower
-        → IfOk result.0 (λ r. (told : List Told) × F.Tells start result.1 told × TellsAll told r.0.released.items) }
+        → IfOk result.0 (λ report. (told : List Told) × F.Tells start result.1 told × TellsAll told report.released.items) }
     ensures partly { (start : F) → IsFollowed F.Tells start following.entry.lanes.items following.entry.fault following.entry.follower
         → IfErr result.0 (λ fault. fault ≢ Unwanted → (told : List Told) × F.Tells start result.1 told × AreInOrder told
         × (K.OverClean → AreToldMade K.programs K.cell.n told)) }
@@ -82,13 +65,9 @@ fn close<K: Naming, R: Wait, G, O: Opener<R>, F: Follower>(
             return (Err(fault), follower);
         }
     };
-    let (statuses, harvests, stores, _, _) = settled(cluster, parts);
+    let (statuses, harvests, _stores, _, _) = settled(cluster, parts);
     let following = following.complete(cluster.rt, cluster.alloc, cluster.shared, harvests);
-    let (report, follower) = following.into_report(cluster.alloc, statuses);
-    match report {
-        Ok(report) => (Ok((report, stores)), follower),
-        Err(fault) => (Err(fault), follower),
-    }
+    following.into_report(cluster.alloc, statuses)
 }
 
 fn run_named<
@@ -106,7 +85,7 @@ fn run_named<
     opener: &'x O,
     follower: F,
     blank: Blank,
-) -> (Result<(Report, Vec<O::Store>), FollowFault>, F)
+) -> (Result<Report, FollowFault>, F)
     requires named { blank ≡ K.cell }
     requires size { blank.n ≡ length plan.now.images.items }
     requires some { 1 ≤ length plan.now.images.items }
@@ -114,15 +93,8 @@ fn run_named<
     requires programs { K.programs ≡ map program_of plan.now.images.items }
     requires clean { K.OverClean → AreAlwaysClean O.Store.is_clean }
     requires start { F.Tells follower follower [] }
-    ensures released { IfOk result.0 (λ r. AreAllReleased r.0.front.vec r.0.released.items) }
-    ensures made { K.OverClean → IfOk result.0 (λ r. AreOutputsOf plan.now.images.items r.0.released.items) }
-    ensures processes { IfOk result.0 (λ r. length r.0.released.items ≡ length plan.now.images.items) }
-    ensures statuses { IfOk result.0 (λ r. length r.0.statuses.items ≡ length plan.now.images.items) }
-    ensures stores { IfOk result.0 (λ r. length r.1.items ≡ length plan.now.images.items) }
-    ensures ended { IfOk result.0 (λ r. All IsEnd r.0.statuses.items) }
-    ensures all { IfOk result.0 (λ r. HaveAllOver O.Store.is_clean plan.now.images.items r.0.statuses.items
-        r.0.released.items r.1.items) }
-    ensures told { IfOk result.0 (λ r. (told : List Told) × F.Tells follower result.1 told × TellsAll told r.0.released.items) }
+    ensures report { IfOk result.0 (IsReport K.OverClean K.programs) }
+    ensures told { IfOk result.0 (λ report. (told : List Told) × F.Tells follower result.1 told × TellsAll told report.released.items) }
     ensures partly { IfErr result.0 (λ fault. fault ≢ Unwanted → (told : List Told) × F.Tells follower result.1 told × AreInOrder told
         × (K.OverClean → AreToldMade (map program_of plan.now.images.items) (length plan.now.images.items) told)) }
 {
@@ -180,29 +152,13 @@ pub fn run_and_follow<
     requires some { 1 ≤ length config.now.images.items }
     requires few { length config.now.images.items ≤ MAX_PROCESSES }
     requires start { F.Tells follower follower [] }
-    ensures released { IfOk result.0 (λ report. AreAllReleased report.front.vec report.released.items) }
-    ensures made { ((store : O.Store) → IsTrue (O.Store.is_clean store))
-        → IfOk result.0 (λ report. AreOutputsOf config.now.images.items report.released.items) }
-    ensures processes { IfOk result.0 (λ report. length report.released.items ≡ length config.now.images.items) }
-    ensures statuses { IfOk result.0 (λ report. length report.statuses.items ≡ length config.now.images.items) }
-    ensures ended { IfOk result.0 (λ report. All IsEnd report.statuses.items) }
-    ensures along { ((store : O.Store) → IsTrue (O.Store.is_clean store))
-        → IfOk result.0 (λ report. AreAlongOf config.now.images.items report.statuses.items) }
-    ensures all { ((store : O.Store) → IsTrue (O.Store.is_clean store))
-        → IfOk result.0 (λ report. HaveAllOf config.now.images.items report.statuses.items report.released.items) }
+    ensures report { IfOk result.0 (IsReport (AreAlwaysClean O.Store.is_clean) (map program_of config.now.images.items)) }
     ensures told { IfOk result.0 (λ report. (told : List Told) × F.Tells follower result.1 told × TellsAll told report.released.items) }
     ensures partly { IfErr result.0 (λ fault. fault ≢ Unwanted → (told : List Told) × F.Tells follower result.1 told × AreInOrder told
-        × (((store : O.Store) → IsTrue (O.Store.is_clean store))
-        → AreToldMade (map program_of config.now.images.items) (length config.now.images.items) told)) }
+        × (AreAlwaysClean O.Store.is_clean → AreToldMade (map program_of config.now.images.items) (length config.now.images.items) told)) }
 {
     let Ok(blank) = Blank::new(alloc, config.images.len()) else {
         return (Err(FollowFault::Run(RunFault::Memory)), follower);
     };
-    let (ended, follower) = run_named::<Brand, R, G, O, F>(
-        rt, alloc, config, gate, opener, follower, blank,
-    );
-    match ended {
-        Ok((report, _)) => (Ok(report), follower),
-        Err(fault) => (Err(fault), follower),
-    }
+    run_named::<Brand, R, G, O, F>(rt, alloc, config, gate, opener, follower, blank)
 }

@@ -1,15 +1,11 @@
 //! What workers bring back, and which fault is told of all.
 
-ghost use Rattle.std.specs.Prelude.{◌≡◌, ◌≤◌, ◌↔◌, ◌⊎◌, All, IfErr, IfNone, IfOk, IfSome, IsTrue, OnOk, length, map, vec_len};
+ghost use Rattle.std.specs.Prelude.{◌≡◌, ◌≤◌, ◌↔◌, ◌⊎◌, IfErr, IfNone, IfOk, IfSome, IsTrue, OnOk, length, map, vec_len};
 ghost use Rattle.om_report.specs.Faults.{IsFaultOf};
-ghost use Rattle.om_process.specs.Core.{IsEnd};
 ghost use Rattle.om_report.specs.declared.fault.RunFault.TheVariants.{Memory};
-ghost use Rattle.om_runner.specs.steps.Ends.{AreBelow, AreEndsOf, AreOwnEnds, IsLeastFault, IsOut, IsWell};
-ghost use Rattle.om_runner.specs.Reports.{AreWholeOver};
+ghost use Rattle.om_runner.specs.steps.Ends.{AreBelow, AreEndsOf, AreOwnEnds, AreParts, IsLeastFault, IsOut, IsWell};
 ghost use Rattle.om_worker.specs.Ends.{IsGiven};
-ghost use Rattle.om_report.specs.Harvests.{AreOwn, harvested};
 ghost use Rattle.om_worker_parts.specs.Network.{IsNetwork};
-ghost use Rattle.om_runner.specs.steps.Settling.{ArePasses};
 
 use om_board::{Naming, PutPass, TakePass};
 use om_process::{Status, Witness};
@@ -143,15 +139,7 @@ pub(crate) fn gathered<K: Naming, R: Wait, G, O: Opener<R>>(
     requires each { AreEndsOf O.Store.is_clean cluster.now.plan.now.images.items cluster.now.inboxes.now K.cell.n results.items }
     requires own { AreOwnEnds cluster.now.plan.now K.cell.n results.items }
     requires some { 1 ≤ K.cell.n }
-    ensures passes { IfOk result (λ parts. ArePasses (length cluster.now.inboxes.now) cluster.now.inboxes.now
-        parts.puts.items parts.takes.items) }
-    ensures statuses { IfOk result (λ parts. length parts.statuses.items ≡ length cluster.now.plan.now.images.items) }
-    ensures stores { IfOk result (λ parts. length parts.stores.items ≡ length cluster.now.plan.now.images.items) }
-    ensures ended { IfOk result (λ parts. All IsEnd parts.statuses.items) }
-    ensures harvests { IfOk result (λ parts. length parts.harvests.items ≡ length cluster.now.plan.now.images.items) }
-    ensures of_each { IfOk result (λ parts. AreOwn parts.harvests.items) }
-    ensures whole { IfOk result (λ parts. AreWholeOver O.Store.is_clean cluster.now.plan.now.images.items
-        parts.statuses.items (harvested parts.harvests.items) parts.stores.items) }
+    ensures parts { IfOk result (AreParts O.Store.is_clean cluster.now.plan.now.images.items cluster.now.inboxes.now) }
     ensures given { OnOk result (IsGiven cluster.now.plan.now) }
     ensures fault { IfErr result (λ f. IsLeastFault results.items f ⊎ (f ≡ Memory)) }
     ensures own { IfErr result (IsFaultOf K.cell.n) }

@@ -2,3 +2,5 @@
 pub mod Codes
 pub mod Between
 pub mod Stop
+pub mod TakenBack
+pub mod Runs

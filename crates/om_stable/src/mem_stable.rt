@@ -2,10 +2,12 @@ ghost use Rattle.std.specs.Prelude.{◌≡◌, ◌≢◌, true, Some, None, IfSo
 ghost use Rattle.std.specs.FinMap as map;
 ghost use Rattle.om_stable.specs.Batches.{IsHeld, pruned_to, with_new};
 ghost use Rattle.om_stable.specs.Content.{kept_by_prune};
+ghost use Rattle.om_stable.specs.steps.TakenBack.{without_new};
 
 use crate::batch::{NewCheckpoint, WriteBatch};
 use crate::error::StoreError;
 use crate::ledger::{Ledger, LedgerTable};
+use crate::receipts::Receipts;
 use crate::record_tree::RecordTree;
 use crate::stable::Stable;
 use std::alloc::Global;
@@ -14,7 +16,7 @@ use std::marker::Model;
 /// One process's store in memory. It is always clean and never answers Fault.
 #[derive(Debug, Drop)]
 pub struct MemStable {
-    receipts: RecordTree,
+    receipts: Receipts,
     checkpoints: RecordTree,
 }
 
@@ -36,7 +38,7 @@ impl MemStable {
         ensures checkpoints { result.checkpoints ≡ map.empty }
     {
         MemStable {
-            receipts: RecordTree::new(alloc),
+            receipts: Receipts::new(alloc),
             checkpoints: RecordTree::new(alloc),
         }
     }
@@ -73,6 +75,16 @@ impl MemStable {
         match checkpoint {
             Some(new) => self.put_checkpoint(alloc, new.x, new.bytes),
             None => Ok(()),
+        }
+    }
+
+    // Removes a checkpoint again, where there is one, so the checkpoints are as they were before it was put.
+    fn take_back(&mut self, checkpoint: Option<NewCheckpoint<'_>>)
+        ensures receipts { self.new.receipts ≡ self.old.receipts }
+        ensures checkpoints { self.new.checkpoints ≡ without_new self.old.checkpoints checkpoint.entry }
+    {
+        if let Some(new) = checkpoint {
+            self.checkpoints.remove(new.x);
         }
     }
 }
@@ -170,10 +182,9 @@ impl Ledger for MemStable {
     }
 
     fn put_batch(&mut self, alloc: Global, batch: &WriteBatch<'_>) -> Result<(), StoreError> {
-        self.put_receipts(alloc, batch.first, batch.receipts)?;
-        if let Err(error) = self.put_new(alloc, batch.checkpoint) {
-            // What was put goes again, so the receipts are as they were.
-            self.receipts.remove_run(batch.first, batch.receipts.len());
+        self.put_new(alloc, batch.checkpoint)?;
+        if let Err(error) = self.put_receipts(alloc, batch.first, batch.receipts) {
+            self.take_back(batch.checkpoint);
             return Err(error);
         }
         self.prune_to(batch.prune_to);

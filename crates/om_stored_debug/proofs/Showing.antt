@@ -10,7 +10,7 @@ use Rattle.om_inferiors.specs.Serving.{SessionState, Takes, session}
 use Rattle.om_inferiors.specs.declared.shown.Shown.TheVariants.{One}
 use Rattle.om_process.specs.declared.replay.ReplayFault.{ReplayFault}
 use Rattle.om_process.specs.declared.replay.ReplayFault.TheVariants as faults
-use Rattle.om_process.specs.Stored.{Anyone, Refuses}
+use Rattle.om_process.specs.Stored.{anyone, Refuses}
 use Rattle.om_commands.specs.Replay.{IsReplayError}
 use Rattle.om_stable.specs.Content.{Content}
 use Rattle.om_stored_timeline.specs.Stored.{RefusesStored}
@@ -18,7 +18,7 @@ use Rattle.om_stored_debug.specs.Shown.{IsErrorOfShown, IsErrorOfStore, IsShown}
 use Rattle.om_stored_debug.specs.steps.Errors.{IsErrorOfServing}
 
 -- ---- why a store is not shown
-refused_to : (held : Content) (x : ℕ) (fault : ReplayFault) → Refuses Anyone held x fault → IsReplayError held x (error_of_replay fault)
+refused_to : (held : Content) (x : ℕ) (fault : ReplayFault) → Refuses anyone held x fault → IsReplayError held x (error_of_replay fault)
 refused_to held x faults.NoCheckpoint why = why
 refused_to held x (faults.Damaged y) why = why
 refused_to held x (faults.MissingReceipt y) why = why

@@ -12,7 +12,7 @@ use Rattle.om_format.specs.Receipts.{ReceiptRecord}
 use Rattle.om_machine.specs.State.{State}
 use Rattle.om_process.specs.Core.{CoreState, cluster_size, settled}
 use Rattle.om_process.specs.Replays.{process_of}
-use Rattle.om_process.specs.Stored.{Anyone, BeginsWith, IsNoMatterOfContent, IsReplay, Refuses}
+use Rattle.om_process.specs.Stored.{anyone, BeginsWith, IsNoMatterOfContent, IsReplay, Refuses}
 use Rattle.om_process.specs.declared.limits.TheConstants.{LAST_INTERVAL}
 use Rattle.om_process.specs.declared.replay.ReplayFault.{ReplayFault}
 use Rattle.om_process.specs.declared.replay.ReplayFault.TheVariants as faults
@@ -29,7 +29,7 @@ use Rattle.om_stored_timeline.specs.steps.Walking.{Found, IsLed}
 use Rattle.om_stored_timeline.proofs.Rows.{followed_of, received_many}
 
 -- ---- the last interval
-pub last_as : (held : Content) (cp : CheckpointRecord) (x : ℕ) (begun f : Follower) (found : Found) → BeginsWith Anyone held LAST_INTERVAL cp → rows_of found ≡ between held.receipts cp.head.interval LAST_INTERVAL
+pub last_as : (held : Content) (cp : CheckpointRecord) (x : ℕ) (begun f : Follower) (found : Found) → BeginsWith anyone held LAST_INTERVAL cp → rows_of found ≡ between held.receipts cp.head.interval LAST_INTERVAL
     → IsLed begun found f → begun.alone.own ≡ cp.head.pid → begun.alone.n ≡ cp.n → begun.interval ≡ cp.head.interval → begun.alone.machine ≡ (process_of cp).machine → x ≡ f.interval → IsLastStored held x
 last_as held cp x begun f found begins is led is_own is_n at machine last =
     let along = led.along in
@@ -53,7 +53,7 @@ last_as held cp x begun f found begins is led is_own is_n at machine last =
     }
 
 -- ---- where it stands
-begin_replay : (held : Content) (x : ℕ) (cp : CheckpointRecord) → BeginsWith Anyone held x cp → cp.n ≡ length cp.head.vec → IsReplay held cp.head.interval (settled cp.head.pid (process_of cp) 0 0 [])
+begin_replay : (held : Content) (x : ℕ) (cp : CheckpointRecord) → BeginsWith anyone held x cp → cp.n ≡ length cp.head.vec → IsReplay held cp.head.interval (settled cp.head.pid (process_of cp) 0 0 [])
 begin_replay held x cp begins size =
     let here : cp.head.interval ≤ cp.head.interval = omega arith in
     let e : cp.head.interval ≡ cp.head.interval + 0 = omega arith in
@@ -73,7 +73,7 @@ begin_replay held x cp begins size =
       replayed = refl;
     }
 
-pub at_begin : (held : Content) (x own n begin event : ℕ) (cp : CheckpointRecord) (there : CoreState) (m : State) (told t : TimelineState) → BeginsWith Anyone held x cp → IsReplay held x there → cp.n ≡ length cp.head.vec
+pub at_begin : (held : Content) (x own n begin event : ℕ) (cp : CheckpointRecord) (there : CoreState) (m : State) (told t : TimelineState) → BeginsWith anyone held x cp → IsReplay held x there → cp.n ≡ length cp.head.vec
     → own ≡ cp.head.pid → n ≡ cp.n → begin ≡ cp.head.interval → m ≡ (process_of cp).machine → event ≡ event_of begin x → IsToldFrom held.receipts own n begin m told
     → t ≡ at told event 0 → machine_here t ≡ there.now.machine → IsTimelineAt held x own t
 at_begin held x own n begin event cp there m told t begins replay size is_own is_n at_interval machine is_event is_told stands here = record {
@@ -96,14 +96,14 @@ same_effective held x c d one other =
     let down : d ≤ c = one.greatest d other.within other.has in
     omega (arith, up, down)
 
-same_checkpoint : (held : Content) (x : ℕ) (a b : CheckpointRecord) → BeginsWith Anyone held x a → BeginsWith Anyone held x b → a ≡ b
+same_checkpoint : (held : Content) (x : ℕ) (a b : CheckpointRecord) → BeginsWith anyone held x a → BeginsWith anyone held x b → a ≡ b
 same_checkpoint held x a b one other =
     let at_same : a.head.interval ≡ b.head.interval = same_effective held.checkpoints x a.head.interval b.head.interval one.effective other.effective in
     let bytes : one.stored.0 ≡ other.stored.0 = some_once one.stored.0 other.stored.0 (sym one.stored.1 ∙ ap (get held.checkpoints) at_same ∙ other.stored.1) in
     let spelled : IsSpelled a other.stored.0 = subst (IsSpelled a) bytes one.stored.2 in
     (one_checkpoint other.stored.0 spelled.0 other.stored.2.0 a b spelled.1 other.stored.2.1).1
 
-pub at_replay : (held : Content) (x own n begin event : ℕ) (cp : CheckpointRecord) (there : CoreState) (m : State) (astray told t : TimelineState) → BeginsWith Anyone held x cp → IsReplay held x there → cp.n ≡ length cp.head.vec
+pub at_replay : (held : Content) (x own n begin event : ℕ) (cp : CheckpointRecord) (there : CoreState) (m : State) (astray told t : TimelineState) → BeginsWith anyone held x cp → IsReplay held x there → cp.n ≡ length cp.head.vec
     → own ≡ cp.head.pid → n ≡ cp.n → begin ≡ cp.head.interval → m ≡ (process_of cp).machine → event ≡ event_of begin x → IsToldFrom held.receipts own n begin m astray
     → (event ≤ length astray.deeds → machine_here (at astray event 0) ≡ there.now.machine → ⊥)
     → IsToldFrom held.receipts own n x there.now.machine t → IsTimelineAt held x own t
@@ -140,7 +140,7 @@ at_replay held x own n begin event cp there m astray told t begins replay size i
     }
 
 -- ---- why it does not
-pub start_refuses : (held : Content) (x : ℕ) (fault : ReplayFault) → RefusesStart held x fault → Refuses Anyone held x fault
+pub start_refuses : (held : Content) (x : ℕ) (fault : ReplayFault) → RefusesStart held x fault → Refuses anyone held x fault
 start_refuses held x faults.NoCheckpoint why = why
 start_refuses held x (faults.Damaged y) why = inl why
 start_refuses held x (faults.MissingReceipt y) why = absurd why
@@ -148,9 +148,9 @@ start_refuses held x (faults.Mismatch y) why = absurd why
 start_refuses held x faults.Fault why = tt
 start_refuses held x faults.Memory why = tt
 
-pub no_matter_refuses : (held : Content) (x : ℕ) (fault : ReplayFault) → IsNoMatterOfContent fault → Refuses Anyone held x fault
-no_matter_refuses held x why (inl is) = subst (Refuses Anyone held x) (sym is) tt
-no_matter_refuses held x why (inr is) = subst (Refuses Anyone held x) (sym is) tt
+pub no_matter_refuses : (held : Content) (x : ℕ) (fault : ReplayFault) → IsNoMatterOfContent fault → Refuses anyone held x fault
+no_matter_refuses held x why (inl is) = subst (Refuses anyone held x) (sym is) tt
+no_matter_refuses held x why (inr is) = subst (Refuses anyone held x) (sym is) tt
 
 pub no_matter_start : (held : Content) (x : ℕ) (fault : ReplayFault) → IsNoMatterOfContent fault → RefusesStart held x fault
 no_matter_start held x why (inl is) = subst (RefusesStart held x) (sym is) tt

@@ -4,7 +4,7 @@ use Rattle.om_format.specs.Checkpoints.{CheckpointRecord}
 use Rattle.om_format.specs.Receipts.{ReceiptRecord}
 use Rattle.om_process.specs.Core.{CoreState, cluster_size}
 use Rattle.om_process.specs.Replays.{process_of}
-use Rattle.om_process.specs.Stored.{Anyone, BeginsWith, IsReplay, Refuses}
+use Rattle.om_process.specs.Stored.{anyone, BeginsWith, IsReplay, Refuses}
 use Rattle.om_process.specs.declared.replay.ReplayFault.{ReplayFault}
 use Rattle.om_process.specs.declared.limits.TheConstants.{LAST_INTERVAL}
 use Rattle.om_stable.specs.Content.{Content, IsEffective}
@@ -19,7 +19,7 @@ event_of begin x = 2 * (x - begin)
 -- along the receipts behind the checkpoint with which a replay to x begins the machine alone does not come to that of the replay
 pub record IsAstray (held : Content) (x : ℕ) (there : CoreState) : Type 0 where
   pub checkpoint : CheckpointRecord
-  pub begins : BeginsWith Anyone held x checkpoint
+  pub begins : BeginsWith anyone held x checkpoint
   pub told : TimelineState
   pub is_told : IsToldFrom held.receipts checkpoint.head.pid checkpoint.n checkpoint.head.interval (process_of checkpoint).machine told
   pub not_there : event_of checkpoint.head.interval x ≤ length told.deeds
@@ -48,7 +48,7 @@ IsStoredAt held x s = IsTimelineAt held x s.process s.timeline
 -- x is the last interval to which the receipts behind the greatest checkpoint lead
 pub record IsLastStored (held : Content) (x : ℕ) : Type 0 where
   pub checkpoint : CheckpointRecord
-  pub begins : BeginsWith Anyone held LAST_INTERVAL checkpoint
+  pub begins : BeginsWith anyone held LAST_INTERVAL checkpoint
   pub receipts : List ReceiptRecord
   pub followed : IsFollowed held.receipts checkpoint.head.pid checkpoint.n checkpoint.head.interval (process_of checkpoint).machine receipts
   pub is : x ≡ checkpoint.head.interval + length receipts
@@ -60,5 +60,5 @@ IsStored held None s = (x : ℕ) × IsLastStored held x × IsStoredAt held x s
 
 -- why it does not: as a replay to the interval that is asked for is refused, or else to some interval
 abbrev pub RefusesStored : Content → Option ℕ → ReplayFault → Type 0
-RefusesStored held (Some x) fault = Refuses Anyone held x fault
-RefusesStored held None fault = (x : ℕ) × Refuses Anyone held x fault
+RefusesStored held (Some x) fault = Refuses anyone held x fault
+RefusesStored held None fault = (x : ℕ) × Refuses anyone held x fault

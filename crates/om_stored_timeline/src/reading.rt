@@ -3,7 +3,7 @@
 ghost use Rattle.std.specs.Prelude.{◌≡◌, ◌≢◌, IfErr, IfOk, IsErrOf};
 ghost use Rattle.om_format.specs.CheckpointViews.{checkpoint_record};
 ghost use Rattle.om_format.specs.Checkpoints.{IsSpelled};
-ghost use Rattle.om_process.specs.Stored.{Anyone, BeginsWith, IsNoMatterOfContent};
+ghost use Rattle.om_process.specs.Stored.{anyone, BeginsWith, IsNoMatterOfContent};
 ghost use Rattle.om_process.specs.declared.limits.TheConstants.{LAST_INTERVAL};
 ghost use Rattle.om_process.specs.declared.replay.ReplayFault.{ReplayFault};
 ghost use Rattle.om_process.specs.steps.Rows.{RefusesCheckpoint, RefusesStart, damage};
@@ -63,7 +63,7 @@ pub(crate) fn beginning<S: Stable>(
     x: u32,
 ) -> Result<Checkpoint, ReplayFault>
     ensures begins { IsCleanCall S.is_clean S.IsSound store.old store.new
-        → IfOk result (λ checkpoint. BeginsWith Anyone (S.content store.old) x (checkpoint_record checkpoint)) }
+        → IfOk result (λ checkpoint. BeginsWith anyone (S.content store.old) x (checkpoint_record checkpoint)) }
     ensures refused { IsCleanCall S.is_clean S.IsSound store.old store.new
         → IfErr result (λ fault. RefusesStart (S.content store.old) x fault) }
     ensures same { IsCleanCall S.is_clean S.IsSound store.old store.new → S.content store.new ≡ S.content store.old }

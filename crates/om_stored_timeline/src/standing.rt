@@ -2,7 +2,7 @@
 
 ghost use Rattle.std.specs.Prelude.{◌≡◌, ◌≤◌, IfErr, IfOk, IsErrOf, None, false, length, true};
 ghost use Rattle.om_format.specs.CheckpointViews.{checkpoint_record};
-ghost use Rattle.om_process.specs.Stored.{Anyone, BeginsWith, IsNoMatterOfContent, IsReplay, Refuses};
+ghost use Rattle.om_process.specs.Stored.{anyone, BeginsWith, IsNoMatterOfContent, IsReplay, Refuses};
 ghost use Rattle.om_process.specs.declared.limits.TheConstants.{LAST_INTERVAL};
 ghost use Rattle.om_process.specs.declared.replay.ReplayFault.{ReplayFault};
 ghost use Rattle.om_process.specs.steps.Rows.{RefusesStart};
@@ -77,7 +77,7 @@ fn last_along(
     checkpoint: &Checkpoint,
     rows: &Vec<(u32, Vec<u8>)>,
 ) -> Result<u32, AllocError>
-    ensures { IfOk result (λ x. (held : Content) → BeginsWith Anyone held LAST_INTERVAL (checkpoint_record checkpoint.now)
+    ensures { IfOk result (λ x. (held : Content) → BeginsWith anyone held LAST_INTERVAL (checkpoint_record checkpoint.now)
         → rows_of rows.now.items ≡ between held.receipts checkpoint.now.head.interval LAST_INTERVAL → IsLastStored held x) }
 {
     let machine = machine_of(alloc, checkpoint)?;
@@ -95,7 +95,7 @@ fn at_interval<S: Stable>(
     x: u32,
 ) -> Result<StoredTimeline, ReplayFault>
     ensures stands { IsCleanCall S.is_clean S.IsSound store.old store.new → IfOk result (IsStoredAt (S.content store.old) x) }
-    ensures refused { IsCleanCall S.is_clean S.IsSound store.old store.new → IfErr result (Refuses Anyone (S.content store.old) x) }
+    ensures refused { IsCleanCall S.is_clean S.IsSound store.old store.new → IfErr result (Refuses anyone (S.content store.old) x) }
     ensures same { IsCleanCall S.is_clean S.IsSound store.old store.new → S.content store.new ≡ S.content store.old }
     ensures used { UsesStore S.failed S.is_clean S.IsSound store.old (IsErrOf result ReplayFault.Fault) store.new }
 {
@@ -116,7 +116,7 @@ fn timeline_at<S: Stable>(
     checkpoint: &Checkpoint,
     there: &ProcCore,
 ) -> Result<Timeline, ReplayFault>
-    ensures stands { IsCleanCall S.is_clean S.IsSound store.old store.new → BeginsWith Anyone (S.content store.old) x (checkpoint_record checkpoint.now)
+    ensures stands { IsCleanCall S.is_clean S.IsSound store.old store.new → BeginsWith anyone (S.content store.old) x (checkpoint_record checkpoint.now)
         → IsReplay (S.content store.old) x there.now
         → IfOk result (IsTimelineAt (S.content store.old) x checkpoint.now.head.pid) }
     ensures refused { IfErr result IsNoMatterOfContent }

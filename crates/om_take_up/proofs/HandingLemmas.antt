@@ -26,14 +26,14 @@ use Rattle.om_take_up.specs.steps.Handing.{Holds}
 pub all_told : (before mid : ManagerState) (round p count : ℕ) (rows : List PendingRow) (end : Result (Unit {0}) RecordError) → end ≡ Ok tt → IsToldUpTo before round p rows count end mid → AreTold before round p rows mid
 all_told before mid round p count rows end is telling =
     let told = subst (λ e. IsToldUpTo before round p rows count e mid) is telling in
-    subst (λ l. AreTold before round p l mid) (ap (λ n. take n rows) told.all ∙ take-length rows) told.told
+    subst (λ l. AreTold before round p l mid) (ap (λ n. take n rows) told.all ∙ take-length rows) told.done
 
 pub all_taken : (before mid after : ManagerState) (round p count : ℕ) (rows : List PendingRow) (made : List Made) (end : Result (Unit {0}) RecordError) → end ≡ Ok tt
     → IsToldUpTo before round p rows count end mid → AreHandedUpTo mid round p made (Ok tt) after → HasTakenUp before round p rows made after
 all_taken before mid after round p count rows made end is telling handed = (
   mid,
   all_told before mid round p count rows end is telling,
-  subst (λ l. AreHanded mid round p l after) (ap (λ n. take n made) handed.all ∙ take-length made) handed.handed,
+  subst (λ l. AreHanded mid round p l after) (ap (λ n. take n made) handed.1.all ∙ take-length made) handed.1.done,
 )
 
 -- ---- one output
@@ -208,9 +208,9 @@ module _ (from m : ManagerState) (p round : ℕ) (xs : List Output) (sound : IsM
   -- and it is refused for memory alone
   pub released_for_memory : (new : ManagerState) (fault : OutputError) → IsManager from → p < process_count from → p < process_count m → round ≡ m.round → AreHandedUpTo m round p (map made_of xs) (Err fault) new → fault ≡ refused.Memory
   released_for_memory new fault old here lt current u =
-      let ms = map made_of xs in let o = u.refused.0 in let at = u.refused.1 in let n = u.refused.2 in
-      let held = all_rising m m new p round [] (take u.count ms) (none_held m p sound none) (numbered_rise 0 (take u.count ms) (numbered_take 0 u.count ms from_zero)) u.handed in
+      let ms = map made_of xs in let o = u.1.refused.0 in let at = u.1.refused.1 in let n = u.1.refused.2 in
+      let held = all_rising m m new p round [] (take u.0 ms) (none_held m p sound none) (numbered_rise 0 (take u.0 ms) (numbered_take 0 u.0 ms from_zero)) u.1.done in
       let rising : AreRising (map held_as ms) = subst AreRising (sym (held_made xs ∙ is)) (released_rising from p old here) in
-      for_memory m new new p round o.seq (map held_as (take u.count ms)) (held_as o) fault held lt current
-      (numbered_at 0 u.count ms o from_zero at ∙ zero-add u.count ∙ long_taken ms u.count o at)
-      (latest ms u.count o rising at) n
+      for_memory m new new p round o.seq (map held_as (take u.0 ms)) (held_as o) fault held lt current
+      (numbered_at 0 u.0 ms o from_zero at ∙ zero-add u.0 ∙ long_taken ms u.0 o at)
+      (latest ms u.0 o rising at) n

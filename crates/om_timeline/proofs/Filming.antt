@@ -1,6 +1,7 @@
 -- What is read of a world behind an event is what the event did to the machine.
-use Rattle.std.proofs.Common.{◌≡◌, ℕ, zero, suc, ◌+◌, ◌-◌, ◌<◌, ◌≤◌, List, [], ◌∷◌, ◌++◌, length, take, Option, Some, None, refl, sym, ap, subst, ◌∙◌, arith, length-append}
+use Rattle.std.proofs.Common.{◌≡◌, ℕ, zero, suc, ◌+◌, ◌-◌, ◌<◌, ◌≤◌, List, [], ◌∷◌, ◌++◌, length, take, Option, Some, None, refl, sym, ap, subst, ◌∙◌, arith}
 use Rattle.std.specs.Prelude.{slice_get}
+use Rattle.om_format.specs.declared.message.Message.{Message}
 use Rattle.om_machine.specs.State.{State}
 use Rattle.om_machine.specs.Finishing.{finished_receive}
 use Rattle.om_process.specs.declared.accept.Accept.TheVariants.{Taken}
@@ -11,7 +12,6 @@ use Rattle.om_process.specs.Core.{CoreState, CoreTurns, cluster_size, with_now}
 use Rattle.om_process.specs.Process.{Process, made}
 use Rattle.om_process.specs.Turns.{IsWaiting, Turns}
 use Rattle.om_process.proofs.Going.{counts_receive, counts_turns}
-use Rattle.om_world.specs.declared.entry.Entry.{Entry}
 use Rattle.om_world.specs.declared.event.Answer.{Answer}
 use Rattle.om_world.specs.declared.event.Answer.TheVariants as answers
 use Rattle.om_world.specs.declared.event.Event.{Event}
@@ -21,7 +21,7 @@ use Rattle.om_world.specs.Happened.{GiveHappened, Happened, RunHappened}
 use Rattle.om_world.specs.Holds.{Holds, StandsAt}
 use Rattle.om_world.specs.Live.{program_at, received}
 use Rattle.om_world.specs.Played.{Step}
-use Rattle.om_world.specs.World.{WorldState, entry_of}
+use Rattle.om_world.specs.World.{WorldState}
 use Rattle.om_world.proofs.Lists.{once, set_there}
 use Rattle.om_timeline.specs.declared.deed.Deed.{Deed}
 use Rattle.om_timeline.specs.declared.deed.Deed.TheVariants.{Nothing, Ran, Took, Fell, Back}
@@ -30,7 +30,7 @@ use Rattle.om_timeline.specs.declared.kind.Kind.TheVariants as kinds
 use Rattle.om_timeline.specs.Alone.{received_alone, turns_alone}
 use Rattle.om_timeline.specs.Deeds.{after_deed, after_deeds, at_position, turns_at, turns_in}
 use Rattle.om_timeline.specs.Shown.{ShownAt, Shows, machine_in, machine_of, runs, still}
-use Rattle.om_timeline.specs.steps.Filmed.{Filmed, HasMachine, HasSeat, IsDeed, IsReceived, IsSeat, IsTaken}
+use Rattle.om_timeline.specs.steps.Filmed.{Filmed, HasMachine, HasSeat, IsDeed, IsFrom, IsSeat, IsTaken}
 use Rattle.om_timeline.specs.steps.Kinds.{IsKind, kind_of}
 use Rattle.om_timeline.proofs.Staying.{stays}
 use Rattle.om_timeline.proofs.Turning.{IsCounted, counted_part, counted_reaches, few_counted, received_of, turns_of}
@@ -119,25 +119,14 @@ run_taken p n fuel steps status sent made m old new holds seat machine after r =
 no_turns : (p n : ℕ) (m : State) (old new : WorldState) (e : Event) (deed : Deed) → turns_in deed ≡ 0 → machine_of p m new ≡ after_deed p n m deed → IsTaken p n m old e deed new
 no_turns p n m old new e deed none shown = record { shown = shown; turns = λ k some within. absurd (omega (arith, some, within, none)) }
 
-behind : {A : Type 0} (xs : List A) (x : A) → slice_get (xs ++ x ∷ []) (length xs) ≡ Some x
-behind [] x = refl
-behind (y ∷ xs) x = behind xs x
-
-last_added : {A : Type 0} (xs : List A) (x : A) → slice_get (xs ++ x ∷ []) (length (xs ++ x ∷ []) - 1) ≡ Some x
-last_added xs x =
-    let long = length-append xs (x ∷ []) in
-    let e : length (xs ++ x ∷ []) - 1 ≡ length xs = omega (arith, long) in
-    ap (slice_get (xs ++ x ∷ [])) e ∙ behind xs x
-
-give_taken : (p n f x from : ℕ) (body : List ℕ) (m : State) (old new : WorldState) → Holds old → HasSeat p n old → HasMachine p old m → HasSeat p n new → IsReceived new from body → GiveHappened old p f (Taken x) new → machine_of p m new ≡ received_alone p n from body m
+give_taken : (p n f x from : ℕ) (body : List ℕ) (m : State) (old new : WorldState) → Holds old → HasSeat p n old → HasMachine p old m → HasSeat p n new → IsFrom new f from body → GiveHappened old p f (Taken x) new → machine_of p m new ≡ received_alone p n from body m
 give_taken p n f x from body m old new holds seat machine after got g =
     let c = g.1 in
     let at : slice_get old.cores p ≡ Some (Some c) = g.2.core in
     let there : slice_get new.cores p ≡ Some (Some (taken c g.0)) = ap (λ (w : WorldState). slice_get w.cores p) g.4 ∙ set_there old.cores p (Some c) (Some (taken c g.0)) at in
-    let live : new.live ≡ old.live ++ entry_of g.0 ∷ [] = ap (λ (w : WorldState). w.live) g.4 in
-    let entry : got.entry ≡ entry_of g.0 = once got.entry (entry_of g.0) (sym got.is_last ∙ ap (λ es. slice_get es (length es - 1)) live ∙ last_added old.live (entry_of g.0)) in
-    let is_from : g.0.from ≡ from = ap (λ (e : Entry). e.from) (sym entry) ∙ sym got.is_from in
-    let is_body : g.0.body ≡ body = ap (λ (e : Entry). e.body) (sym entry) ∙ sym got.is_body in
+    let same : g.0 ≡ got.message = once g.0 got.message (sym g.2.frame ∙ sym (ap (λ (w : WorldState). slice_get w.frames f) g.4) ∙ got.there) in
+    let is_from : g.0.from ≡ from = ap (λ (m : Message). m.from) same ∙ sym got.is_from in
+    let is_body : g.0.body ≡ body = ap (λ (m : Message). m.body) same ∙ sym got.is_body in
     let few = (after (taken c g.0) there).few in
     let count = counts_receive g.0.from g.0.body c.now.machine in
     let below : c.now.machine.count < LAST_NUMBER = omega (arith, few, count) in
@@ -161,9 +150,9 @@ taken_of p n m old new e a kind (Ran steps) holds seat machine after happened is
     let did : Happened old (events.Run p run.0) (answers.Ran steps run.1 run.2 run.3) new = subst (λ x. Happened old x (answers.Ran steps run.1 run.2 run.3) new) run.5 (subst (λ x. Happened old e x new) run.4 happened) in
     subst (λ x. IsTaken p n m old x (Ran steps) new) (sym run.5) (run_taken p n run.0 steps run.1 run.2 run.3 m old new holds seat machine after did)
 taken_of p n m old new e a kind (Took from body) holds seat machine after happened is deed =
-    let got : IsKind p a e kinds.Took = subst (IsKind p a e) deed.0 is in
-    let did : Happened old (events.Give p got.1) (answers.Given (Taken got.0)) new = subst (λ x. Happened old x (answers.Given (Taken got.0)) new) got.3 (subst (λ x. Happened old e x new) got.2 happened) in
-    no_turns p n m old new e (Took from body) refl (give_taken p n got.1 got.0 from body m old new holds seat machine after deed.1 did)
+    let got : IsKind p a e (kinds.Took deed.0) = subst (IsKind p a e) deed.1 is in
+    let did : Happened old (events.Give p deed.0) (answers.Given (Taken got.0)) new = subst (λ x. Happened old x (answers.Given (Taken got.0)) new) got.2 (subst (λ x. Happened old e x new) got.1 happened) in
+    no_turns p n m old new e (Took from body) refl (give_taken p n deed.0 got.0 from body m old new holds seat machine after deed.2 did)
 taken_of p n m old new e a kind Fell holds seat machine after happened is deed =
     no_turns p n m old new e Fell refl (nowhere_shown m (slice_get new.cores p) deed)
 taken_of p n m old new e a kind (Back back) holds seat machine after happened is deed =

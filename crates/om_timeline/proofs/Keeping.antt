@@ -6,8 +6,8 @@ use Rattle.om_machine.specs.State.{State}
 use Rattle.om_timeline.specs.declared.deed.Deed.{Deed}
 use Rattle.om_timeline.specs.declared.fault.PlayFault.{PlayFault}
 use Rattle.om_timeline.specs.declared.stage.Stage.{Stage}
-use Rattle.om_timeline.specs.declared.tape.Look.{Look}
-use Rattle.om_timeline.specs.declared.tape.Look.TheVariants as looks
+use Rattle.om_timeline.specs.declared.tape.Peek.{Peek}
+use Rattle.om_timeline.specs.declared.tape.Peek.TheVariants as looks
 use Rattle.om_timeline.specs.steps.Reels.{ReelState}
 use Rattle.om_timeline.specs.steps.Kept.{IsKept, IsStage}
 use Rattle.om_timeline.specs.steps.Placed.{IsPlaced}
@@ -26,7 +26,7 @@ kept_longer t more m own n event turns stages kept = record {
 }
 
 -- with what came of one event more
-pub kept_filmed : (result : Result Look PlayFault) (old new : ReelState) (m : State) (own n event turns : ℕ) (stages : List Stage)
+pub kept_filmed : (result : Result Peek PlayFault) (old new : ReelState) (m : State) (own n event turns : ℕ) (stages : List Stage)
     → IfOk result (λ look. look ≡ looks.Next → (deed : Deed) × (new ≡ record old { deeds = old.deeds ++ deed ∷ [] }))
     → IfOk result (λ look. look ≡ looks.NotYet → new ≡ old) → IfOk result (λ look. look ≡ looks.End → new ≡ old) → OnErr result (new ≡ old)
     → IsKept old m own n event turns stages → IsKept new m own n event turns stages

@@ -1,9 +1,9 @@
 -- What is read of a world behind an event.
-use Rattle.std.proofs.Common.{◌≡◌, ℕ, ◌-◌, List, [], ◌∷◌, ◌++◌, length, Some, refl, sym, ap, ◌∙◌, subst, arith, length-append}
+use Rattle.std.proofs.Common.{◌≡◌, ℕ, List, Some, refl, subst}
 use Rattle.std.specs.Prelude.{slice_get}
+use Rattle.om_format.specs.declared.message.Message.{Message}
 use Rattle.om_machine.specs.State.{State}
 use Rattle.om_process.specs.Core.{CoreState}
-use Rattle.om_world.specs.declared.entry.Entry.{Entry}
 use Rattle.om_world.specs.declared.event.Answer.{Answer}
 use Rattle.om_world.specs.declared.event.Event.{Event}
 use Rattle.om_world.specs.World.{WorldState}
@@ -15,18 +15,8 @@ use Rattle.om_timeline.specs.steps.Filmed.{HasSeat, IsDeed, IsPlayedDeed, IsRead
 use Rattle.om_timeline.specs.steps.Parts.{IsPlayed, PlayerState}
 use Rattle.om_timeline.specs.steps.Kinds.{IsKind}
 
-last_of : (before : List Entry) (entry : Entry) → slice_get (before ++ entry ∷ []) (length (before ++ entry ∷ []) - 1) ≡ Some entry
-last_of before entry = ap (slice_get (before ++ entry ∷ [])) (place before entry) ∙ at_end before entry
-  where
-    place : (before : List Entry) (entry : Entry) → length (before ++ entry ∷ []) - 1 ≡ length before
-    place before entry = let n = length-append before (entry ∷ []) in omega arith
-
-    at_end : (before : List Entry) (entry : Entry) → slice_get (before ++ entry ∷ []) (length before) ≡ Some entry
-    at_end [] entry = refl
-    at_end (x ∷ before) entry = at_end before entry
-
-pub is_received : (p : ℕ) (w : WorldState) (from : ℕ) (body : List ℕ) (entry : Entry) → (before : List Entry) × (w.live ≡ before ++ entry ∷ []) → from ≡ entry.from → body ≡ entry.body → IsDeed (Took from body) p w kinds.Took
-is_received p w from body entry last is_from is_body = (refl, record { entry = entry; is_last = subst (λ l. slice_get l (length l - 1) ≡ Some entry) (sym last.1) (last_of last.0 entry); is_from = is_from; is_body = is_body })
+pub is_received : (p : ℕ) (w : WorldState) (frame from : ℕ) (body : List ℕ) (m : Message) → slice_get w.frames frame ≡ Some m → from ≡ m.from → body ≡ m.body → IsDeed (Took from body) p w (kinds.Took frame)
+is_received p w frame from body m there is_from is_body = (frame, refl, record { message = m; there = there; is_from = is_from; is_body = is_body })
 
 pub is_machine : (p : ℕ) (w : WorldState) (m : State) (c : CoreState) → slice_get w.cores p ≡ Some (Some c) → m ≡ c.now.machine → IsDeed (Back m) p w kinds.Back
 is_machine p w m c at same = (c, at, same)

@@ -66,8 +66,8 @@ apart q p test same = grind (arith, nat_tests)
 ran_some : (steps : ℕ) → kinds.Ran steps ≢ kinds.Nothing
 ran_some steps e = cc
 
-took_some : kinds.Took ≢ kinds.Nothing
-took_some e = cc
+took_some : (frame : ℕ) → kinds.Took frame ≢ kinds.Nothing
+took_some frame e = cc
 
 back_some : kinds.Back ≢ kinds.Nothing
 back_some e = cc
@@ -76,7 +76,7 @@ not_memory : kinds.NoMemory ≡ kinds.Nothing → ⊥
 not_memory e = cc
 
 stays_given : (p q f : ℕ) (old new : WorldState) (accept : Accept) → Happened old (events.Give q f) (answers.Given accept) new → kind_of p (answers.Given accept) (events.Give q f) ≡ kinds.Nothing → StaysFor p old new
-stays_given p q f old new (accepts.Taken x) h k = stays_apart p q old new _ (apart q p (other_if (nat_eq q p) kinds.Took k took_some)) (ap (λ (w : WorldState). w.cores) h.4)
+stays_given p q f old new (accepts.Taken x) h k = stays_apart p q old new _ (apart q p (other_if (nat_eq q p) (kinds.Took f) k (took_some f))) (ap (λ (w : WorldState). w.cores) h.4)
 stays_given p q f old new accepts.Stranger h k = stays_same p old new h.4
 stays_given p q f old new accepts.Orphan h k = stays_same p old new h.4
 stays_given p q f old new accepts.Repeat h k = stays_same p old new h.4

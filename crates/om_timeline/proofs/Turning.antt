@@ -14,7 +14,7 @@ use Rattle.om_machine.specs.declared.event.EnvCall.TheVariants.{Exit, Send, Rece
 use Rattle.om_machine.proofs.Stepping.{steps-next}
 use Rattle.om_process.specs.declared.limits.TheConstants.{LAST_NUMBER}
 use Rattle.om_process.specs.Process.{Process, Program, Received, Move, Waits, Ends, Traps, Goes, Emits, delivered, emitted, empty_queue, made, moved, started}
-use Rattle.om_process.specs.Parts.{Keeps}
+use Rattle.om_process.specs.Parts.{IsTrimmed}
 use Rattle.om_process.specs.Turns.{IsWaiting, Leads, Reaches, Turns, after_event, emits, next_move, next_turn, refuses}
 use Rattle.om_process.proofs.Basics.{some_once, some_none}
 use Rattle.om_process.proofs.Going.{counts_receive, counts_turn}
@@ -211,7 +211,7 @@ counted_reaches program own n h t reaches =
     let along = reaches.1 in
     counted_turns own n reaches.0 along.0 t along.2 (counted_leads own n h (started program n) along.0 along.1 (counted_started program n))
 
-pub counted_part : (whole part : Process) → Keeps whole part → IsCounted whole → IsCounted part
+pub counted_part : (whole part : Process) → IsTrimmed whole part → IsCounted whole → IsCounted part
 counted_part whole part keeps counted place =
     let before = counted place in
     let same : slice_index (made part.queues) place ≡ slice_index (made whole.queues) place = ap (λ counts. slice_index counts place) (made_same whole.queues part.queues keeps.queues) in

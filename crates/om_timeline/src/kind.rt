@@ -13,8 +13,8 @@ pub(crate) enum Kind {
     Nothing,
     // It took so many turns.
     Ran(u64),
-    // It received a message.
-    Took,
+    // It received the frame of a number.
+    Took(usize),
     // It came back.
     Back,
     // Memory ran out.
@@ -30,8 +30,13 @@ pub(crate) fn kind_of(process: usize, answer: Answer, event: Event) -> Kind
         (Answer::Ran { steps, .. }, Event::Run { process: other, .. }) if other == process => {
             Kind::Ran(steps)
         }
-        (Answer::Given(Accept::Taken(_)), Event::Give { process: other, .. }) if other == process =>
-            { Kind::Took }
+        (
+            Answer::Given(Accept::Taken(_)),
+            Event::Give {
+                process: other,
+                frame,
+            },
+        ) if other == process => Kind::Took(frame),
         (Answer::Back { .. }, Event::Resume { process: other }) if other == process => Kind::Back,
         (Answer::Refused(Refusal::Memory), _) => Kind::NoMemory,
         _ => Kind::Nothing,

@@ -8,7 +8,7 @@
 pub use alone::{Alone, copy_of};
 pub use deed::Deed;
 pub use fault::PlayFault;
-pub use tape::Look;
+pub use tape::Peek;
 pub use timeline::{Position, Timeline};
 
 mod alone;

@@ -4,14 +4,14 @@ ghost use Rattle.std.specs.Prelude.{◌≡◌, ◌∷◌, ◌++◌, [], IfOk, If
 ghost use Rattle.om_world.specs.Holds.{Holds};
 ghost use Rattle.om_world.specs.World.{IsKnown, WorldState};
 ghost use Rattle.om_timeline.specs.declared.deed.Deed.{Deed};
-ghost use Rattle.om_timeline.specs.declared.tape.Look.{Look};
+ghost use Rattle.om_timeline.specs.declared.tape.Peek.{Peek};
 ghost use Rattle.om_timeline.specs.Timeline.{CanBegin};
 ghost use Rattle.om_timeline.specs.steps.Filmed.{IsFilmed, IsMachineAt};
 ghost use Rattle.om_timeline.specs.steps.Reels.{tape_from};
 
 use crate::deed::Deed;
 use crate::fault::PlayFault;
-use crate::tape::{Look, Tape};
+use crate::tape::{Peek, Tape};
 use crate::whole::Whole;
 use om_interval::Pid;
 use om_machine::Machine;
@@ -147,17 +147,17 @@ impl Reel {
     }
 
     // Plays one event more of a record, or a part of it. After a fault the same fault is answered from then on.
-    pub(crate) fn film(&mut self, alloc: Global) -> Result<Look, PlayFault>
-        ensures next { IfOk result (λ look. look ≡ Look.Next
+    pub(crate) fn film(&mut self, alloc: Global) -> Result<Peek, PlayFault>
+        ensures next { IfOk result (λ look. look ≡ Peek.Next
             → (deed : Deed) × (self.new ≡ record self.old { deeds = self.old.deeds ++ deed ∷ [] })) }
-        ensures not_yet { IfOk result (λ look. look ≡ Look.NotYet → self.new ≡ self.old) }
-        ensures end { IfOk result (λ look. look ≡ Look.End → self.new ≡ self.old) }
-        ensures all { IfOk result (λ look. look ≡ Look.End → length self.old.deeds ≡ length self.old.events) }
+        ensures not_yet { IfOk result (λ look. look ≡ Peek.NotYet → self.new ≡ self.old) }
+        ensures end { IfOk result (λ look. look ≡ Peek.End → self.new ≡ self.old) }
+        ensures all { IfOk result (λ look. look ≡ Peek.End → length self.old.deeds ≡ length self.old.events) }
         ensures refused { OnErr result (self.new ≡ self.old) }
     {
         match &mut self.source {
             Source::Played(tape) => tape.film(alloc),
-            Source::Told(_) => Ok(Look::End),
+            Source::Told(_) => Ok(Peek::End),
         }
     }
 }

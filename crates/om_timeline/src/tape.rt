@@ -4,7 +4,7 @@ ghost use Rattle.std.specs.Prelude.{◌≡◌, ◌∷◌, ◌++◌, ◌≤◌, L
 ghost use Rattle.om_world.specs.Holds.{Holds};
 ghost use Rattle.om_world.specs.World.{IsKnown, WorldState};
 ghost use Rattle.om_timeline.specs.declared.deed.Deed.{Deed};
-ghost use Rattle.om_timeline.specs.declared.tape.Look.{Look};
+ghost use Rattle.om_timeline.specs.declared.tape.Peek.{Peek};
 ghost use Rattle.om_timeline.specs.Timeline.{CanBegin};
 ghost use Rattle.om_timeline.specs.steps.Filmed.{HasSeat, IsDeed, IsFilmed, IsMachineAt, IsPlayedDeed, IsRead};
 
@@ -35,13 +35,18 @@ pub(crate) fn is_seated(world: &World<MemStable>, process: Pid, n: u32) -> bool
     }
 }
 
-// Returns what was received last.
+// The receipt of the frame of a number.
 #[tactic(auto, using(crate::proofs::Reading::is_received))]
-fn received(alloc: Global, world: &World<MemStable>, process: Pid) -> Result<Deed, AllocError>
-    ensures { IfOk result (λ deed. IsDeed deed process world.now Kind.Took) }
+fn received(
+    alloc: Global,
+    world: &World<MemStable>,
+    process: Pid,
+    frame: usize,
+) -> Result<Deed, AllocError>
+    ensures { IfOk result (λ deed. IsDeed deed process world.now (Kind.Took frame)) }
 {
-    match world.last_received() {
-        Some(entry) => Ok(Deed::Took(entry.from.index() as u32, entry.body.copy(alloc)?)),
+    match world.frames().get(frame) {
+        Some(message) => Ok(Deed::Took(message.from.index() as u32, message.body.copy(alloc)?)),
         None => Err(AllocError),
     }
 }
@@ -72,7 +77,7 @@ pub(crate) fn deed_of(
     match kind {
         Kind::Nothing => Ok(Deed::Nothing),
         Kind::Ran(turns) => Ok(Deed::Ran(turns)),
-        Kind::Took => received(alloc, world, process),
+        Kind::Took(frame) => received(alloc, world, process, frame),
         Kind::Back => machine_now(alloc, world, process),
         Kind::NoMemory => Err(AllocError),
     }
@@ -80,7 +85,7 @@ pub(crate) fn deed_of(
 
 /// What comes of a look at the next event.
 #[derive(Clone, Copy, Debug, PartialEq, Eq)]
-pub enum Look {
+pub enum Peek {
     /// It was played.
     Next,
     /// A part of it was played, and it is to be looked at again.
@@ -212,12 +217,12 @@ impl Tape {
     }
 
     // Plays one event more, or a part of it. After a fault the same fault is answered from then on.
-    pub(crate) fn film(&mut self, alloc: Global) -> Result<Look, PlayFault>
-        ensures next { IfOk result (λ look. look ≡ Look.Next
+    pub(crate) fn film(&mut self, alloc: Global) -> Result<Peek, PlayFault>
+        ensures next { IfOk result (λ look. look ≡ Peek.Next
             → (deed : Deed) × (self.new ≡ record self.old { deeds = self.old.deeds ++ deed ∷ [] })) }
-        ensures not_yet { IfOk result (λ look. look ≡ Look.NotYet → self.new ≡ self.old) }
-        ensures end { IfOk result (λ look. look ≡ Look.End → self.new ≡ self.old) }
-        ensures all { IfOk result (λ look. look ≡ Look.End → length self.old.deeds ≡ length self.old.events) }
+        ensures not_yet { IfOk result (λ look. look ≡ Peek.NotYet → self.new ≡ self.old) }
+        ensures end { IfOk result (λ look. look ≡ Peek.End → self.new ≡ self.old) }
+        ensures all { IfOk result (λ look. look ≡ Peek.End → length self.old.deeds ≡ length self.old.events) }
         ensures refused { OnErr result (self.new ≡ self.old) }
     {
         match self.fault {
@@ -226,16 +231,16 @@ impl Tape {
         }
         let place = self.deeds.len();
         if place >= self.events.len() {
-            return Ok(Look::End);
+            return Ok(Peek::End);
         }
         self.deeds.try_reserve(1)?;
         let event = self.events[place];
         match next_deed(alloc, &mut self.player, self.process, self.n, event) {
             Ok(Some(deed)) => {
                 self.deeds.push_reserved(deed);
-                Ok(Look::Next)
+                Ok(Peek::Next)
             }
-            Ok(None) => Ok(Look::NotYet),
+            Ok(None) => Ok(Peek::NotYet),
             Err(fault) => {
                 self.fault = Some(fault);
                 Err(fault)

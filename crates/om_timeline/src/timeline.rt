@@ -5,7 +5,7 @@ ghost use Rattle.om_world.specs.Holds.{Holds};
 ghost use Rattle.om_world.specs.World.{IsKnown};
 ghost use Rattle.om_process.specs.Core.{status_of};
 ghost use Rattle.om_timeline.specs.declared.deed.Deed.{Deed};
-ghost use Rattle.om_timeline.specs.declared.tape.Look.{Look};
+ghost use Rattle.om_timeline.specs.declared.tape.Peek.{Peek};
 ghost use Rattle.om_timeline.specs.Alone.{move_alone};
 ghost use Rattle.om_timeline.specs.Deeds.{turns_at};
 ghost use Rattle.om_timeline.specs.Shown.{ShownAt};
@@ -18,7 +18,7 @@ use crate::deed::{Deed, turns_at};
 use crate::fault::PlayFault;
 use crate::reel::Reel;
 use crate::stage::{Stage, are_up_to, before, is_full, is_up_to, spacing_of, thin, up_to};
-use crate::tape::Look;
+use crate::tape::Peek;
 use om_interval::Pid;
 use om_machine::Machine;
 use om_process::Status;
@@ -188,18 +188,18 @@ impl Timeline {
     /// Plays the record up to the next event and over it, where that was not played so far, and tells whether there is one. Of a run of very
     /// many instructions a part is played, and nothing is known of it until all are (`NotYet`). The position stays, and so does all that was
     /// played. After a fault the same fault is answered from then on.
-    pub fn look(&mut self, alloc: Global) -> Result<Look, PlayFault>
+    pub fn look(&mut self, alloc: Global) -> Result<Peek, PlayFault>
         ensures more { IfOk result (λ look. (deeds : List Deed) × (self.new ≡ with_deeds self.old (self.old.deeds ++ deeds))) }
-        ensures there { IfOk result (λ look. look ≡ Look.Next → self.new.event < length self.new.deeds) }
-        ensures not_yet { IfOk result (λ look. look ≡ Look.NotYet → self.new ≡ self.old) }
-        ensures end { IfOk result (λ look. look ≡ Look.End → length self.old.events ≤ self.old.event) }
+        ensures there { IfOk result (λ look. look ≡ Peek.Next → self.new.event < length self.new.deeds) }
+        ensures not_yet { IfOk result (λ look. look ≡ Peek.NotYet → self.new ≡ self.old) }
+        ensures end { IfOk result (λ look. look ≡ Peek.End → length self.old.events ≤ self.old.event) }
         ensures refused { OnErr result (self.new ≡ self.old) }
     {
         if self.passed >= self.spacing {
             self.keep_on(alloc);
         }
         if self.at.event < self.tape.deeds().len() {
-            return Ok(Look::Next);
+            return Ok(Peek::Next);
         }
         self.film(alloc)
     }
@@ -237,12 +237,12 @@ impl Timeline {
     }
 
     // Plays one event more, or a part of it.
-    fn film(&mut self, alloc: Global) -> Result<Look, PlayFault>
+    fn film(&mut self, alloc: Global) -> Result<Peek, PlayFault>
         requires { length self.old.deeds ≤ self.old.event }
         ensures more { IfOk result (λ look. (deeds : List Deed) × (self.new ≡ with_deeds self.old (self.old.deeds ++ deeds))) }
-        ensures there { IfOk result (λ look. look ≡ Look.Next → self.new.event < length self.new.deeds) }
-        ensures not_yet { IfOk result (λ look. look ≡ Look.NotYet → self.new ≡ self.old) }
-        ensures end { IfOk result (λ look. look ≡ Look.End → length self.old.events ≤ self.old.event) }
+        ensures there { IfOk result (λ look. look ≡ Peek.Next → self.new.event < length self.new.deeds) }
+        ensures not_yet { IfOk result (λ look. look ≡ Peek.NotYet → self.new ≡ self.old) }
+        ensures end { IfOk result (λ look. look ≡ Peek.End → length self.old.events ≤ self.old.event) }
         ensures refused { OnErr result (self.new ≡ self.old) }
     {
         self.tape.film(alloc)

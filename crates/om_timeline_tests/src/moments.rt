@@ -8,7 +8,7 @@ use om_interval::Pid;
 use om_isa::Ext;
 use om_process::{Image, StartFault, Status};
 use om_stable::MemStable;
-use om_timeline::{Deed, Look, Position, Timeline};
+use om_timeline::{Deed, Peek, Position, Timeline};
 use om_world::{Event, World};
 use std::alloc::{AllocError, Global};
 use std::process::Abort;
@@ -148,7 +148,7 @@ fn begun(rt: &impl Abort, alloc: Global) -> Timeline {
 fn played(rt: &impl Abort, alloc: Global) -> Timeline {
     let mut timeline = begun(rt, alloc);
     for _ in 0..EVENTS.len() {
-        assert_eq!(rt; timeline.look(alloc).expect(rt, "an event"), Look::Next);
+        assert_eq!(rt; timeline.look(alloc).expect(rt, "an event"), Peek::Next);
         assert!(rt; timeline.pass(alloc).expect(rt, "memory"));
     }
     timeline
@@ -174,7 +174,7 @@ fn each_event_is_passed(rt: HostRuntime) {
     for (event, wanted) in BEHIND.iter().enumerate() {
         assert!(&rt; place(&timeline) == *wanted, "{event}");
         assert!(&rt; timeline.position().event == event, "{event}");
-        let more = timeline.look(alloc).expect(&rt, "an event") == Look::Next;
+        let more = timeline.look(alloc).expect(&rt, "an event") == Peek::Next;
         assert!(&rt; more == (event < 9), "{event}");
         assert!(&rt;
             timeline.pass(alloc).expect(&rt, "memory") == more,
@@ -305,9 +305,9 @@ static LONG: [Event; 4] = [
 fn looks(rt: &impl Abort, alloc: Global, timeline: &mut Timeline) -> (u64, bool) {
     for parts in 0..100 {
         match timeline.look(alloc).expect(rt, "an event") {
-            Look::Next => return (parts, true),
-            Look::NotYet => {}
-            Look::End => return (parts, false),
+            Peek::Next => return (parts, true),
+            Peek::NotYet => {}
+            Peek::End => return (parts, false),
         }
     }
     (100, false)

@@ -31,8 +31,8 @@ handed_over before mid after p q count old new is_p told k same handing l =
     let made = outputs_from new (length (held_by mid p)) in
     record {
       told_all = mid;
-      told = subst (λ rows. AreTold before old.round p rows mid) (ap (λ n. take n old.pending) told.all ∙ take-length old.pending) told.told;
-      handed = subst (λ ms. AreHanded mid new.round p ms after) (ap (λ n. take n made) handed.all ∙ take-length made) handed.handed;
+      told = subst (λ rows. AreTold before old.round p rows mid) (ap (λ n. take n old.pending) told.all ∙ take-length old.pending) told.done;
+      handed = subst (λ ms. AreHanded mid new.round p ms after) (ap (λ n. take n made) handed.1.all ∙ take-length made) handed.1.done;
       none_left = same ∙ ap (λ rows. with_pending old rows) (ap (λ n. drop n old.pending) told.all ∙ drop-length old.pending);
       keeps = keeps_then before mid after k l;
     }

@@ -12,7 +12,7 @@ use Rattle.om_stable.specs.Content.{Content, nothing}
 use Rattle.om_stable.proofs.RecordLemmas.{get-insert_here, get-insert_apart}
 use Rattle.om_process.specs.Process.{Process, Program, empty_queue, started}
 use Rattle.om_process.specs.Turns.{Reaches}
-use Rattle.om_process.specs.Parts.{Keeps}
+use Rattle.om_process.specs.Parts.{IsTrimmed}
 use Rattle.om_process.specs.steps.Pieces.{KeepQueues}
 use Rattle.om_process.specs.Core.{CoreState}
 use Rattle.om_process.specs.Claims.{AtInterval, RowOf}
@@ -126,7 +126,7 @@ first_running programs m p held program at receipts checkpoints = record {
 }
   where
     KeepsIt : Process → Type 0
-    KeepsIt whole = Keeps whole (started program (length programs))
+    KeepsIt whole = IsTrimmed whole (started program (length programs))
 
     low : (queue : QueueRecord) (x : ℕ) → queue ≡ empty_queue → queue.first ≤ x
     low queue x is = subst (λ (q : QueueRecord). q.first ≤ x) (sym is) (least x)

@@ -100,12 +100,6 @@ after_none IsSound xs w live cs i same still =
 pub none_given : (w : WorldState) (live : List Entry) (cs : List (Option CoreState)) → live ≡ w.live → cs ≡ w.cores → remade w live w.frames cs w.manager w.contents w.health ≡ w
 none_given w live cs same still = ap (λ l. remade w l w.frames cs w.manager w.contents w.health) same ∙ ap (λ l. remade w w.live w.frames l w.manager w.contents w.health) still
 
-pub room_none : (w v : WorldState) (live : List Entry) (p f : ℕ) (m : Message) (r : Result Answer Refusal) → w ≡ v → IsUp w p → HasShape w → slice_get w.frames f ≡ Some m → r ≡ Err refusals.Memory → live ≡ w.live
-    → Happened v (Event.Give p f) (answered r) (remade w live w.frames w.cores w.manager w.contents w.health)
-room_none w v live p f m r e up h frame is same =
-    subst (λ (x : WorldState). Happened x (Event.Give p f) (answered r) (remade w live w.frames w.cores w.manager w.contents w.health)) e
-    (no_room w (remade w live w.frames w.cores w.manager w.contents w.health) p f m r up h frame is (none_given w live w.cores same refl))
-
 pub given_none : (w : WorldState) (live : List Entry) (p f : ℕ) (m : Message) (a : Accept) (cs : List (Option CoreState)) → live ≡ w.live → IsUp w p → slice_get w.frames f ≡ Some m → ((x : ℕ) → a ≢ accepts.Taken x) → a ≢ accepts.Memory → IsOfferedAt w.cores p m a cs
     → GiveHappened w p f a (remade w live w.frames cs w.manager w.contents w.health)
 given_none w live p f m a cs same up frame nt nm o = subst (λ l. GiveHappened w p f a (remade w l w.frames cs w.manager w.contents w.health)) (sym same) (not_given w p f m a cs up frame nt nm o)

@@ -311,7 +311,7 @@ record IsHeld (w : WorldState) (p : ℕ) (c : CoreState) (count : ℕ) (m : Mana
   pub long : length (held_by m p) ≡ length (held_by w.manager p) + count
 
 is_held : (w : WorldState) (p : ℕ) (c : CoreState) (end : Result (Unit {0}) OutputError) (m : ManagerState) → HasShape w → Sound w → IsUp w p → slice_get w.cores p ≡ Some (Some c)
-    → (t : AreHandedUpTo w.manager c.round p (outputs_from c (length (held_by w.manager p))) end m) → IsHeld w p c t.count m
+    → (t : AreHandedUpTo w.manager c.round p (outputs_from c (length (held_by w.manager p))) end m) → IsHeld w p c t.0 m
 is_held w p c end m h s up at t =
     let short = inside w.cores p (Some c) at in let cores = h.cores in let stores = h.stores in
     let lt : p < length w.programs = omega arith in
@@ -321,10 +321,10 @@ is_held w p c end m h s up at t =
     let next = length (held_by w.manager p) in
     let es = drop (next - q.first) q.entries in
     let numbers : outputs_from c next ≡ numbered made_as next es = ap (λ k. numbered made_as k es) (high q.first next b.0) in
-    let within : t.count ≤ length es = subst (λ k. t.count ≤ k) (ap length numbers ∙ length-numbered made_as next es) t.within in
-    let handed : AreHanded w.manager c.round p (numbered made_as next (take t.count es)) m = subst (λ ms. AreHanded w.manager c.round p ms m) (ap (take t.count) numbers ∙ take_numbered next t.count es) t.handed in
-    let all = all_handed w m c.round p next (take t.count es) h s lt refl (λ k e f. b.1 k e (at_take es t.count k e f)) handed in
-    record { shape = all.0; sound = all.1; round = (s.up p c at up).round ∙ sym all.2; inside = lt; behind = b; numbers = numbers; long = sym all.3 ∙ ap (λ k. next + k) (length-take es t.count within) }
+    let within : t.0 ≤ length es = subst (λ k. t.0 ≤ k) (ap length numbers ∙ length-numbered made_as next es) t.1.within in
+    let handed : AreHanded w.manager c.round p (numbered made_as next (take t.0 es)) m = subst (λ ms. AreHanded w.manager c.round p ms m) (ap (take t.0) numbers ∙ take_numbered next t.0 es) t.1.done in
+    let all = all_handed w m c.round p next (take t.0 es) h s lt refl (λ k e f. b.1 k e (at_take es t.0 k e f)) handed in
+    record { shape = all.0; sound = all.1; round = (s.up p c at up).round ∙ sym all.2; inside = lt; behind = b; numbers = numbers; long = sym all.3 ∙ ap (λ k. next + k) (length-take es t.0 within) }
   where
     high : (first next : ℕ) → first ≤ next → max first next ≡ next
     high first next le = omega arith
@@ -334,35 +334,35 @@ pub after_handed : {S : Type 0} (IsSound : S → Type 0) (xs : List S) (w : Worl
 after_handed IsSound xs w p end m i up n =
     let c = n.0 in let t = n.2 in
     let short = inside w.cores p (Some c) n.1 in let cores = i.shape.cores in let size = i.shape.size in
-    let more = handed_more w.manager m c.round p (take t.count (outputs_from c (length (held_by w.manager p)))) (omega arith) i.shape.manager t.handed in
+    let more = handed_more w.manager m c.round p (take t.0 (outputs_from c (length (held_by w.manager p)))) (omega arith) i.shape.manager t.1.done in
     record {
       shape = shape_same w w.live w.frames m w.contents w.health i.shape refl more.2 more.3;
       clean = λ all. let s = i.clean all in (s.0, (is_held w p c end m i.shape s.1 up n.1 t).sound);
       between = λ all free. between_more (before_of w) m w.live w.contents (λ q. ap (λ r. slice_index r q) (ap (λ (k : ManagerState). k.recovery) more.0.1)) (λ q lt. released_all w.manager m i.shape.manager more.1 q) (i.between all free);
     }
 
-all_held : (w : WorldState) (p : ℕ) (c : CoreState) (end : Result (Unit {0}) OutputError) (m : ManagerState) → (t : AreHandedUpTo w.manager c.round p (outputs_from c (length (held_by w.manager p))) end m) → IsHeld w p c t.count m
+all_held : (w : WorldState) (p : ℕ) (c : CoreState) (end : Result (Unit {0}) OutputError) (m : ManagerState) → (t : AreHandedUpTo w.manager c.round p (outputs_from c (length (held_by w.manager p))) end m) → IsHeld w p c t.0 m
     → OnOk end (made_by c ≤ length (held_by m p))
 all_held w p c (Err fault) m t k = tt
 all_held w p c (Ok done) m t k =
     let q = outputs_of c in
     let next = length (held_by w.manager p) in
     let es = drop (next - q.first) q.entries in
-    let count : t.count ≡ length es = t.all ∙ ap length k.numbers ∙ length-numbered made_as next es in
+    let count : t.0 ≡ length es = t.1.all ∙ ap length k.numbers ∙ length-numbered made_as next es in
     let rest = length-drop (next - q.first) q.entries in
     let low = k.behind.0 in let long = k.long in
     omega arith
 
-memory_alone : (w : WorldState) (p : ℕ) (c : CoreState) (end : Result (Unit {0}) OutputError) (m : ManagerState) → (t : AreHandedUpTo w.manager c.round p (outputs_from c (length (held_by w.manager p))) end m) → IsHeld w p c t.count m
+memory_alone : (w : WorldState) (p : ℕ) (c : CoreState) (end : Result (Unit {0}) OutputError) (m : ManagerState) → (t : AreHandedUpTo w.manager c.round p (outputs_from c (length (held_by w.manager p))) end m) → IsHeld w p c t.0 m
     → IfErr end (λ fault. fault ≡ refused.Memory)
 memory_alone w p c (Ok done) m t k = tt
 memory_alone w p c (Err fault) m t k =
     let q = outputs_of c in
     let next = length (held_by w.manager p) in
     let es = drop (next - q.first) q.entries in
-    let f = t.refused in
-    let e = at_numbered next t.count es f.0 (ap (λ ms. slice_get ms t.count) (sym k.numbers) ∙ f.1) in
-    not_refused (with_m w m) m c.round p (next + t.count) e.0 fault k.shape k.sound k.inside k.round (sym k.long) (k.behind.1 t.count e.0 e.1)
+    let f = t.1.refused in
+    let e = at_numbered next t.0 es f.0 (ap (λ ms. slice_get ms t.0) (sym k.numbers) ∙ f.1) in
+    not_refused (with_m w m) m c.round p (next + t.0) e.0 fault k.shape k.sound k.inside k.round (sym k.long) (k.behind.1 t.0 e.0 e.1)
     (subst (λ (x : Made). NotesOutput m p c.round x.seq (held_as x) (Err fault) m) e.2 f.2)
 
 pub has_handed : {S : Type 0} (IsSound : S → Type 0) (xs : List S) (w : WorldState) (p : ℕ) (end : Result (Unit {0}) OutputError) (m : ManagerState) → IsWorld IsSound xs w → IsUp w p → IsHandedIn w p end m
@@ -370,7 +370,7 @@ pub has_handed : {S : Type 0} (IsSound : S → Type 0) (xs : List S) (w : WorldS
 has_handed IsSound xs w p end m i up n =
     let c = n.0 in let t = n.2 in
     let short = inside w.cores p (Some c) n.1 in let cores = i.shape.cores in let size = i.shape.size in
-    let more = handed_more w.manager m c.round p (take t.count (outputs_from c (length (held_by w.manager p)))) (omega arith) i.shape.manager t.handed in
+    let more = handed_more w.manager m c.round p (take t.0 (outputs_from c (length (held_by w.manager p)))) (omega arith) i.shape.manager t.1.done in
     record {
       core = c;
       there = n.1;

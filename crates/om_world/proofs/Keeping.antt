@@ -48,8 +48,8 @@ keeps_called kind w v p a h = record {
 -- a process stored, and its rows were told
 pub keeps_recorded : (kind : Batch) (w mid v : WorldState) (p count : ℕ) (a : Result (Unit {0}) StoreError) (end : Result (Unit {0}) RecordError) → HasCalled kind w p a mid → HasTold mid p count end v → Keeps w v
 keeps_recorded kind w mid v p count a end h t = record {
-  size = told_size mid.manager v.manager t.core.round p _ t.told.told ∙ ap (λ (x : WorldState). process_count x.manager) h.others;
-  released = subst (λ m. KeepsReleased m v.manager) (ap (λ (x : WorldState). x.manager) h.others) (told_keeps mid.manager v.manager t.core.round p _ t.told.told);
+  size = told_size mid.manager v.manager t.core.round p _ t.told.done ∙ ap (λ (x : WorldState). process_count x.manager) h.others;
+  released = subst (λ m. KeepsReleased m v.manager) (ap (λ (x : WorldState). x.manager) h.others) (told_keeps mid.manager v.manager t.core.round p _ t.told.done);
   clean = λ all. h.was_clean (ap all_clean (sym (ap (λ (x : WorldState). x.health) t.others)) ∙ all);
   counts = subst (λ l. NoneFell w.health l) (sym (ap (λ (x : WorldState). x.health) t.others)) h.counts;
   origins = ap (λ (x : WorldState). x.origins) t.others ∙ ap (λ (x : WorldState). x.origins) h.others;

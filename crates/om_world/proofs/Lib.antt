@@ -44,7 +44,6 @@ pub mod Undamaged
 pub mod Downing
 pub mod Legal
 pub mod Released
-pub mod Counting
 pub mod FailureCounts
 pub mod Gathering
 pub mod Declaring
@@ -55,7 +54,6 @@ pub mod Seats
 pub mod Acting
 pub mod Rising
 pub mod Seating
-pub mod Remembering
 pub mod StoppingLemmas
 pub mod TakingUp
 pub mod Between

@@ -126,7 +126,7 @@ known_after w p count end m c h s up at t =
     let short = inside w.cores p (Some c) at in let long = h.cores in let stores = h.stores in
     let store = there w.contents p (omega arith) in
     let r = s.running p c store.0 at store.1 (inl up) in
-    let all = all_told w m c.round p store.0 (take count c.pending) h s store.1 (λ i row f. r.pending i row (at_take c.pending count i row f)) t.told in
+    let all = all_told w m c.round p store.0 (take count c.pending) h s store.1 (λ i row f. r.pending i row (at_take c.pending count i row f)) t.done in
     (all.0, all.1, all.2, λ i row f. (store.0, all.3 row (r.pending i row f)))
 
 pub after_note : {S : Type 0} (IsSound : S → Type 0) (xs : List S) (w : WorldState) (p count : ℕ) (end : Result (Unit {0}) RecordError) (m : ManagerState) (cs : List (Option CoreState)) → IsWorld IsSound xs w → IsUp w p → TellsStored w p → IsNotedIn w p count end m cs
@@ -134,7 +134,7 @@ pub after_note : {S : Type 0} (IsSound : S → Type 0) (xs : List S) (w : WorldS
 after_note IsSound xs w p count end m cs i up since n =
     let c = n.0 in let at = n.1 in let t = n.2 in
     let d = with_pending c (drop count c.pending) in
-    let h = shape_all w m c.round p (take count c.pending) i.shape t.told in
+    let h = shape_all w m c.round p (take count c.pending) i.shape t.done in
     subst (λ l. IsWorld IsSound xs (remade w w.live w.frames l m w.contents w.health)) (sym n.3) (record {
       shape = shape_core (with_m w m) p c d w.live w.frames m w.contents w.health h at refl refl refl h.manager refl;
       clean = λ all.
@@ -145,7 +145,7 @@ after_note IsSound xs w p count end m cs i up since n =
           );
       between = λ all free.
           let none = not_so (has_rows c.pending) w.since.stored (since.tells c at) free in
-          subst (λ k. IsBetween (before_of (with_m w k)) w.live w.contents) (sym (same_manager c.pending count c.round p w.manager m none t.told)) (i.between all free);
+          subst (λ k. IsBetween (before_of (with_m w k)) w.live w.contents) (sym (same_manager c.pending count c.round p w.manager m none t.done)) (i.between all free);
     })
 
 refused_memory : (w : WorldState) (p count : ℕ) (end : Result (Unit {0}) RecordError) (m : ManagerState) (c : CoreState) → HasShape w → Sound w → IsUp w p → slice_get w.cores p ≡ Some (Some c) → IsToldUpTo w.manager c.round p c.pending count end m → IfErr end (λ fault. fault ≡ Refused Memory)

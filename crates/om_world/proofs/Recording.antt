@@ -96,7 +96,7 @@ has_noted kind w mid v p count end up h t =
               (ap (λ (x : WorldState). x.origins) t.others ∙ ap (λ (x : WorldState). x.origins) h.others);
         };
         within = told.within;
-        manager = told_notes w.manager v.manager d.round p (take count d.pending) (subst (λ m. AreTold m d.round p (take count d.pending) v.manager) manager told.told);
+        manager = told_notes w.manager v.manager d.round p (take count d.pending) (subst (λ m. AreTold m d.round p (take count d.pending) v.manager) manager told.done);
         frames = ap (λ (x : WorldState). x.frames) t.others ∙ ap (λ (x : WorldState). x.frames) h.others;
       },
       told,

@@ -7,7 +7,7 @@ use Rattle.om_process.specs.declared.replay.ReplayFault.{ReplayFault}
 use Rattle.om_process.specs.declared.replay.ReplayFault.TheVariants.{Fault}
 use Rattle.om_process.specs.Core.{CoreState}
 use Rattle.om_process.specs.Resumes.{resumed}
-use Rattle.om_process.specs.Stored.{CanReplay, TheProcess}
+use Rattle.om_process.specs.Stored.{CanReplay, the_process}
 use Rattle.om_world.specs.declared.process_state.ProcessState.{ProcessState}
 use Rattle.om_world.specs.Failures.{HasNews, IsToGoOn}
 use Rattle.om_world.specs.World.{Health, WorldState, IsKnown, all_clean}
@@ -158,5 +158,5 @@ stays_down content health IsSound w p fault xs ys i lt news k = record {
   counts = called_counts content health IsSound p xs ys (IsRolledBack w.manager p (Err fault)) k;
   why = λ all.
       let c = called content health IsSound w p xs ys (IsRolledBack w.manager p (Err fault)) i k all in
-      c.did.1 (subst (λ n. CanReplay (TheProcess p n) (content k.before) (slice_index w.manager.last p)) (sym i.shape.size) (can_replay (over content health w xs w.cores) p (content k.before) i.shape c.sound lt news c.there));
+      c.did.1 (subst (λ n. CanReplay (the_process p n) (content k.before) (slice_index w.manager.last p)) (sym i.shape.size) (can_replay (over content health w xs w.cores) p (content k.before) i.shape c.sound lt news c.there));
 }

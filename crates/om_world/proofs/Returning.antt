@@ -18,7 +18,7 @@ use Rattle.om_process.specs.steps.Pieces.{receipts_of}
 use Rattle.om_process.specs.Claims.{CheckpointOf, RecordOf, RecordsAlong}
 use Rattle.om_process.specs.Core.{CoreState, cluster_size}
 use Rattle.om_process.specs.Resumes.{resumed}
-use Rattle.om_process.specs.Stored.{AreReceiptsAfter, CanReplay, IsReceiptAt, IsReplay, TheProcess}
+use Rattle.om_process.specs.Stored.{AreReceiptsAfter, CanReplay, IsReceiptAt, IsReplay, the_process}
 use Rattle.om_process.proofs.Making.{interval_along}
 use Rattle.om_process.proofs.Replays.{replayed_along, replays}
 use Rattle.om_process.proofs.Runs.{leads_grow, replay_leads}
@@ -242,7 +242,7 @@ at_recovered w p h s lt news =
     let at = s.behind p lt news in
     omega arith
 
-pub can_replay : (w : WorldState) (p : ℕ) (held : Content) → HasShape w → Sound w → p < length w.programs → HasNews w p → slice_get w.contents p ≡ Some held → CanReplay (TheProcess p (length w.programs)) held (slice_index w.manager.last p)
+pub can_replay : (w : WorldState) (p : ℕ) (held : Content) → HasShape w → Sound w → p < length w.programs → HasNews w p → slice_get w.contents p ≡ Some held → CanReplay (the_process p (length w.programs)) held (slice_index w.manager.last p)
 can_replay w p held h s lt news at =
     let v = past_of w in
     let n = length w.programs in

@@ -9,7 +9,7 @@ use Rattle.om_stable.specs.Content.{Content, kept_by_cut}
 use Rattle.om_process.specs.Core.{CoreState, cluster_size}
 use Rattle.om_process.specs.Process.{Program}
 use Rattle.om_process.specs.Resumes.{resumed}
-use Rattle.om_process.specs.Stored.{CanReplay, IsReplay, TheProcess}
+use Rattle.om_process.specs.Stored.{CanReplay, IsReplay, the_process}
 use Rattle.om_process.specs.declared.down.Down.{Down}
 use Rattle.om_process.specs.declared.replay.ReplayFault.{ReplayFault}
 use Rattle.om_process.specs.declared.replay.ReplayFault.TheVariants as replays
@@ -317,9 +317,9 @@ module _ {S : Type 0} (content : S → Content) (is_clean : S → Bool) (failed 
       };
       did = λ clean sound. let d = h.called.did clean sound in (
         d.0,
-        λ can. d.1 (subst (λ x. CanReplay (TheProcess who.pid who.n) (content m.store) x) (sym same_place)
-            (subst (λ x. CanReplay (TheProcess who.pid x) (content m.store) (slice_index M.last p)) (sym size)
-            (subst (λ x. CanReplay (TheProcess x (process_count M)) (content m.store) (slice_index M.last p)) (sym pid) can))),
+        λ can. d.1 (subst (λ x. CanReplay (the_process who.pid who.n) (content m.store) x) (sym same_place)
+            (subst (λ x. CanReplay (the_process who.pid x) (content m.store) (slice_index M.last p)) (sym size)
+            (subst (λ x. CanReplay (the_process x (process_count M)) (content m.store) (slice_index M.last p)) (sym pid) can))),
       );
     })
 

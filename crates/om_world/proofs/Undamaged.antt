@@ -205,7 +205,7 @@ told_for_memory programs live held p count rows m next fault disk lt size first 
     n = length programs
 
     added : AreAdded m p (take count rows) next
-    added = are_added m 0 p (take count rows) next sound told.told
+    added = are_added m 0 p (take count rows) next sound told.done
 
     t : PendingRow
     t = told.refused.0

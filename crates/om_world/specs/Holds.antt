@@ -8,7 +8,7 @@ use Rattle.om_stable.specs.Content.{Content}
 use Rattle.om_process.specs.Process.{Process}
 use Rattle.om_process.specs.Core.{CoreState}
 use Rattle.om_process.specs.Turns.{Reaches}
-use Rattle.om_process.specs.Parts.{Keeps}
+use Rattle.om_process.specs.Parts.{IsTrimmed}
 use Rattle.om_process.specs.Replays.{process_of}
 use Rattle.om_process.specs.Dependencies.{count_from}
 use Rattle.om_process.specs.Claims.{AtInterval, CheckpointOf, HasEntry, RecordOf, RowOf}
@@ -28,7 +28,7 @@ use Rattle.om_world.specs.World.{WorldState, recovered, output_entry}
 pub record StandsAt (w : WorldState) (p : ℕ) (c : CoreState) : Type 0 where
   pub whole : Process
   pub reaches : Reaches (program_at w.programs p) p (length w.programs) (received p w.live) whole
-  pub keeps : Keeps whole c.now
+  pub keeps : IsTrimmed whole c.now
   pub row : RowOf p (length w.programs) c.now.vec c.now.got (received p w.live)
   pub undelivered : (q number : ℕ) (e : QueueEntry) → q < length w.programs → count_from p (received q w.live) ≤ number
       → HasEntry whole.queues q number e → HasEntry c.now.queues q number e

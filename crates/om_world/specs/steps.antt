@@ -4,12 +4,10 @@ pub mod Legal
 pub mod Sound
 pub mod Restarting
 pub mod Stopping
-pub mod Remembered
 pub mod Moves
 pub mod Starting
 pub mod Running
 pub mod Pruning
-pub mod Counts
 pub mod Members
 pub mod Gathering
 pub mod Returning

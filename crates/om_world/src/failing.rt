@@ -12,7 +12,7 @@ ghost use Rattle.om_world.specs.steps.Moves.{Keeps, answered};
 
 use crate::event::{Answer, Refusal};
 use crate::process_state::ProcessState;
-use crate::receipts::Receipts;
+use crate::remembered::Remembered;
 use crate::since::Since;
 use crate::world::World;
 use om_interval::Pid;
@@ -33,7 +33,7 @@ pub(crate) enum Failure {
 
 // Cuts what was received to the recovery state, where the round is finished.
 pub(crate) fn cut_where_finished(
-    live: &mut Receipts,
+    live: &mut Remembered,
     since: &mut Since,
     manager: &Manager,
     told: Gathered,
@@ -43,7 +43,7 @@ pub(crate) fn cut_where_finished(
 {
     if told == Gathered::Finished {
         since.finish(live);
-        live.cut(&manager.recovery());
+        *live = Remembered::cut(live, &manager.recovery());
     }
 }
 

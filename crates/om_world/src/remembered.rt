@@ -1,14 +1,15 @@
 //! Entries that clauses alone know.
 
-ghost use Rattle.std.specs.Prelude.{◌≡◌, List, []};
+ghost use Rattle.std.specs.Prelude.{◌≡◌, ◌++◌, ◌∷◌, List, [], slice_index};
 ghost use Rattle.std.specs.Borrow.{ftrue};
 ghost use Rattle.std.specs.Coded.{coded_list};
+ghost use Rattle.om_world.specs.Live.{cut_list};
+ghost use Rattle.om_world.specs.World.{entry_of};
 ghost use Rattle.om_world.specs.declared.entry.Entry.{Entry};
 ghost use Rattle.om_world.specs.steps.Codes.{coded_entry};
-ghost use Rattle.om_world.specs.steps.Remembered.{left_by};
 
-use crate::leave::Leave;
-use crate::receipts::Receipts;
+use om_format::Message;
+use om_interval::DepVec;
 use std::marker::Model;
 
 // Entries in order. They take no bytes.
@@ -29,16 +30,23 @@ impl Remembered {
         Remembered {}
     }
 
-    // All that was received.
-    pub(crate) fn all(_live: &Receipts) -> Remembered
-        ensures { result.entries ≡ _live.now.entries }
+    // The same entries.
+    pub(crate) fn copy(_before: &Remembered) -> Remembered
+        ensures { result.entries ≡ _before.now.entries }
     {
         Remembered {}
     }
 
-    // What is left of entries.
-    pub(crate) fn after(_before: &Remembered, _leave: &Leave) -> Remembered
-        ensures { result.entries ≡ left_by _leave.now _before.now.entries }
+    // The entries, and behind them that of a message.
+    pub(crate) fn longer(_before: &Remembered, _message: &Message) -> Remembered
+        ensures { result.entries ≡ _before.now.entries ++ entry_of _message.now ∷ [] }
+    {
+        Remembered {}
+    }
+
+    // Of each process its first entries, as many as the state says.
+    pub(crate) fn cut(_before: &Remembered, _state: &DepVec) -> Remembered
+        ensures { result.entries ≡ cut_list (λ p. slice_index _state.now p) _before.now.entries }
     {
         Remembered {}
     }

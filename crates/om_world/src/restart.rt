@@ -19,11 +19,10 @@ ghost use Rattle.om_world.specs.declared.event.Event.{Event};
 ghost use Rattle.om_world.specs.declared.event.Refusal.{Refusal};
 ghost use Rattle.om_world.specs.steps.Members.{downed};
 ghost use Rattle.om_world.specs.steps.Moves.{Keeps, answered};
-ghost use Rattle.om_world.specs.steps.Remembered.{fitting};
-ghost use Rattle.om_world.specs.steps.Restarting.{HasRead, HasToldStores, IsAnew, IsRefusal, begun_live, left_run, refusal_of_rows};
+ghost use Rattle.om_world.specs.steps.Restarting.{HasRead, HasToldStores, IsAnew, IsRefusal, left_run, refusal_of_rows};
 
 use crate::event::{Answer, Refusal};
-use crate::receipts::Receipts;
+use crate::remembered::Remembered;
 use crate::since::Since;
 use crate::start::new_manager;
 use crate::world::World;
@@ -47,26 +46,13 @@ pub(crate) fn put_down<S: Stable>(members: &mut Vec<Member<S>>)
     }
 }
 
-// Leaves of what had been received before the last finished round what a restart recovers.
-fn begin_before(alloc: Global, live: &mut Receipts, since: &mut Since, state: &DepVec)
-    ensures live { live.new.entries ≡ fitting (λ p. slice_index state.now p) (cut_list (λ p. slice_index state.now p) since.old.before) }
-    ensures since { since.new ≡ record { before = since.old.before; stored = false } }
-{
-    *live = Receipts::before(alloc, &since.before, state);
-    since.stored = false;
-}
-
 // Leaves of what was received what a restart recovers: of what was received last, or before the last finished round.
-fn begin_live(alloc: Global, live: &mut Receipts, since: &mut Since, state: &DepVec, current: bool)
-    ensures live { live.new.entries ≡ begun_live current (λ p. slice_index state.now p) live.old.entries since.old.before }
+fn begin_live(live: &mut Remembered, since: &mut Since, state: &DepVec, current: bool)
+    ensures live { live.new.entries ≡ cut_list (λ p. slice_index state.now p) (cond current live.old.entries since.old.before) }
     ensures since { since.new ≡ record { before = cond current live.old.entries since.old.before; stored = false } }
 {
-    if current {
-        since.finish(live);
-        live.cut(state);
-    } else {
-        begin_before(alloc, live, since, state);
-    }
+    since.restart(live, current);
+    *live = Remembered::cut(since.before(), state);
 }
 
 impl<S: Stable> World<S> {
@@ -164,16 +150,14 @@ impl<S: Stable> World<S> {
     }
 
     // Ends all that runs, and puts a new manager in the place of this one.
-    fn begin_anew(&mut self, alloc: Global, manager: Manager, current: bool)
+    fn begin_anew(&mut self, manager: Manager, current: bool)
         requires anew { IsAnew self.old manager }
         requires left { IsLeft self.old (left_run current self.old) }
-        ensures world { self.new ≡ record (anew (along self.old (left_run current self.old)) manager) { live = self.new.live } }
-        ensures live { IsKnown self.new → self.new ≡ anew (along self.old (left_run current self.old)) manager }
+        ensures { self.new ≡ anew (along self.old (left_run current self.old)) manager }
     {
         put_down(&mut self.members);
         self.frames.clear();
         begin_live(
-            alloc,
             &mut self.live,
             &mut self.since,
             &manager.recovery(),
@@ -191,7 +175,7 @@ impl<S: Stable> World<S> {
     {
         let current = self.settled()?;
         let manager = self.manager_anew(alloc)?;
-        self.begin_anew(alloc, manager, current);
+        self.begin_anew(manager, current);
         Ok(Answer::Restarted)
     }
 }

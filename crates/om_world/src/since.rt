@@ -1,10 +1,9 @@
 //! What is kept of the last finished round.
 
-ghost use Rattle.std.specs.Prelude.{◌≡◌, [], false};
+ghost use Rattle.std.specs.Prelude.{◌≡◌, [], cond, false};
 ghost use Rattle.om_world.specs.steps.Moves.{since_told};
 
 use crate::event::Refusal;
-use crate::receipts::Receipts;
 use crate::remembered::Remembered;
 use std::marker::Model;
 
@@ -51,6 +50,13 @@ impl Since {
         self.stored
     }
 
+    // What had been received before the round cut it.
+    pub(crate) fn before(&self) -> &Remembered
+        ensures { result.now.entries ≡ self.now.before }
+    {
+        &self.before
+    }
+
     // A store was called, and rows are pending behind it or not: where none is, it holds no more than before.
     pub(crate) fn note_stored(&mut self, told: &Result<(), Refusal>, has_rows: bool)
         ensures { self.new ≡ since_told has_rows told.now self.old }
@@ -61,10 +67,21 @@ impl Since {
     }
 
     // A round finishes, and is about to cut this.
-    pub(crate) fn finish(&mut self, live: &Receipts)
+    pub(crate) fn finish(&mut self, live: &Remembered)
         ensures { self.new ≡ record { before = live.now.entries; stored = false } }
     {
-        self.before = Remembered::all(live);
+        self.before = Remembered::copy(live);
         self.stored = false;
+    }
+
+    // All starts anew over what was received, or over what had been before the last finished round.
+    pub(crate) fn restart(&mut self, live: &Remembered, current: bool)
+        ensures { self.new ≡ record { before = cond current live.now.entries self.old.before; stored = false } }
+    {
+        if current {
+            self.finish(live);
+        } else {
+            self.stored = false;
+        }
     }
 }

@@ -9,7 +9,7 @@ ghost use Rattle.om_manager.specs.Sound.{IsManager};
 ghost use Rattle.om_world.specs.Started.{HaveFirst, IsLoadable, IsNew, IsRefusedAt, IsStarted};
 ghost use Rattle.om_world.specs.steps.Starting.{AreSeated, IsStart};
 
-use crate::receipts::Receipts;
+use crate::remembered::Remembered;
 use crate::since::Since;
 use crate::world::World;
 use om_interval::Pid;
@@ -130,7 +130,7 @@ impl<S: Stable> World<S> {
         let members = start_all(alloc, images, stores)?;
         Ok(World {
             images: copies,
-            live: Receipts::new(alloc),
+            live: Remembered::none(),
             frames: Vec::new(alloc),
             members,
             manager,

@@ -10,7 +10,6 @@ ghost use Rattle.om_world.specs.declared.entry.Entry.{Entry};
 ghost use Rattle.om_world.specs.steps.Members.{store_in};
 ghost use Rattle.om_world.specs.steps.Stopping.{AreReleasedBy, halted};
 
-use crate::remembered::Remembered;
 use crate::stopped::Stopped;
 use crate::world::World;
 use om_interval::Pid;
@@ -103,11 +102,11 @@ impl<S: Stable> World<S> {
         ensures between { IfOk result (λ left. IsKnown left → (run : List Entry) → IsLeft left run → IsOnDisk (along left run)) }
     {
         let released = released_by(alloc, &self.manager)?;
-        let live = Remembered::all(&self.live);
         let manager = Snapshot::of(&self.manager);
         let current = self.is_current();
         let World {
             images,
+            live,
             mut members,
             origins,
             since,

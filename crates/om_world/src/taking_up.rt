@@ -20,7 +20,6 @@ ghost use Rattle.om_world.specs.declared.event.Refusal.{Refusal};
 ghost use Rattle.om_world.specs.steps.Restarting.{HasRead, HasToldStores, IsAnew, IsRefusal, refusal_of_rows};
 
 use crate::event::Refusal;
-use crate::receipts::Receipts;
 use crate::remembered::Remembered;
 use crate::restart::put_down;
 use crate::since::Since;
@@ -125,8 +124,7 @@ impl<S: Stable> Stopped<S> {
     fn into_world(self, alloc: Global, manager: Manager) -> World<S>
         requires anew { IsAnew self manager }
         requires whole { IsWhole self }
-        ensures { (run : List Entry) × IsLeft self run × (result ≡ record (anew (along self run) manager) { live = result.live })
-            × (IsKnown result → result ≡ anew (along self run) manager) }
+        ensures { (run : List Entry) × IsLeft self run × (result ≡ anew (along self run) manager) }
     {
         let Stopped {
             images,
@@ -141,7 +139,7 @@ impl<S: Stable> Stopped<S> {
         let run = run_of(live, since, current);
         World {
             images,
-            live: Receipts::before(alloc, &run, &manager.recovery()),
+            live: Remembered::cut(&run, &manager.recovery()),
             frames: Vec::new(alloc),
             members,
             manager,

@@ -1,17 +1,15 @@
 //! The world.
 
-ghost use Rattle.std.specs.Prelude.{◌≡◌, ◌++◌, ◌∷◌, ◌<◌, List, [], length, map, slice_get, IfOk, IfErr, IfNone, IfSome, IsTrue, Some, true};
+ghost use Rattle.std.specs.Prelude.{◌≡◌, ◌<◌, length, map, slice_get, IfOk, IfErr, IfNone, IfSome, IsTrue, Some, true};
 ghost use Rattle.om_process.specs.Core.{CoreState, cluster_size};
 ghost use Rattle.om_world.specs.Changes.{IsUp};
 ghost use Rattle.om_world.specs.steps.NotRunning.{NotRunning};
 ghost use Rattle.om_world.specs.Holds.{Holds};
 ghost use Rattle.om_world.specs.World.{IsKnown, all_clean};
-ghost use Rattle.om_world.specs.declared.entry.Entry.{Entry};
 
-use crate::entry::Entry;
 use crate::event::Refusal;
 use crate::process_state::ProcessState;
-use crate::receipts::Receipts;
+use crate::remembered::Remembered;
 use crate::since::Since;
 use om_format::Message;
 use om_interval::Pid;
@@ -26,7 +24,8 @@ use std::snapshot::Snapshot;
 #[derive(Drop)]
 pub struct World<S: Stable> {
     pub(crate) images: Vec<Image>,
-    pub(crate) live: Receipts,
+    // What was received and not cut.
+    pub(crate) live: Remembered,
     pub(crate) frames: Vec<Message>,
     // By process.
     pub(crate) members: Vec<Member<S>>,
@@ -60,21 +59,11 @@ impl<S: Stable> Model for World<S> {
 }
 
 impl<S: Stable> World<S> {
-    /// Returns what was received since the world started or was taken up, and not cut, in order: the end of all that was received.
-    pub fn received(&self) -> &[Entry]
-        ensures { (before : List Entry) × (self.now.live ≡ before ++ result.now) }
+    /// Returns the frames that were made since the world started, was taken up or was last restarted, in the order in which they were made.
+    pub fn frames(&self) -> &[Message]
+        ensures { result.now ≡ self.now.frames }
     {
-        self.live.since()
-    }
-
-    /// Returns what was received last: none where that was before the world was taken up, and where nothing was received.
-    pub fn last_received(&self) -> Option<&Entry>
-        ensures { IfSome result (λ entry. (before : List Entry) × (self.now.live ≡ before ++ entry.now ∷ [])) }
-    {
-        match self.received().last() {
-            Some(entry) => Some(entry),
-            None => None,
-        }
+        &self.frames
     }
 
     /// The manager.

@@ -174,7 +174,7 @@ fn a_message_is_passed_on(rt: HostRuntime) {
     let first = world.core(Pid::at(0)).expect(&rt, "a core");
     assert_eq!(&rt;
         (
-            world.received().len(),
+            world.frames().len(),
             recovery.get(Pid::at(0)),
             first.inc(),
             first.interval(),
@@ -342,7 +342,7 @@ pub static FAILURE_ANSWERS: [Answer; 13] = [
 #[test]
 fn a_process_fails_and_another_is_rolled_back(rt: HostRuntime) {
     let world = played(&rt, rt.alloc(), &RUN_WITH_A_FAILURE, 8, &FAILURE_ANSWERS);
-    assert_eq!(&rt; world.received().len(), 2);
+    assert_eq!(&rt; world.frames().len(), 3);
     check_the_end(&rt, &world);
 }
 

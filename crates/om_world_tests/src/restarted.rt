@@ -227,7 +227,7 @@ fn a_restart_in_a_drawn_script_loses_nothing(rt: HostRuntime) {
     }
 }
 
-// Ends the world, and takes up what is left: all that was recovered and released is there, and nothing is received since.
+// Ends the world, and takes up what is left: all that was recovered and released is there, and no frame.
 fn taken_up(rt: &impl Abort, alloc: Global, world: World<MemStable>) -> World<MemStable> {
     let before = released(rt, alloc, &world);
     let recovery = world.manager().recovery();
@@ -238,8 +238,7 @@ fn taken_up(rt: &impl Abort, alloc: Global, world: World<MemStable>) -> World<Me
     let world = taken.ok().expect(rt, "a world");
     assert!(rt; recovery.leq(&world.manager().recovery()));
     assert_eq!(rt; released(rt, alloc, &world).as_slice(), before.as_slice());
-    assert!(rt; world.received().is_empty());
-    assert!(rt; world.last_received().is_none());
+    assert!(rt; world.frames().is_empty());
     world
 }
 
@@ -285,16 +284,34 @@ fn two_stops_in_a_drawn_script_lose_nothing(rt: HostRuntime) {
     }
 }
 
-// What was received since is told, and last of all what came last.
+// The frames are just these, each from the one process to the other.
+fn check_frames(rt: &impl Abort, world: &World<MemStable>, wanted: &[(usize, usize)]) {
+    assert_eq!(rt; world.frames().len(), wanted.len());
+    for k in 0..wanted.len() {
+        let message = world.frames().get(k).expect(rt, "a frame");
+        assert_eq!(rt; (message.from.index(), message.to.index()), wanted[k]);
+    }
+}
+
+// Behind what process 1 passed on.
+const PASSED_ON: usize = 5;
+
+// The frames are told in the order in which they were made. A restart leaves none, and what process 1 passes on is the first then.
 #[test]
-fn what_is_received_since_is_told(rt: HostRuntime) {
+fn frames_are_told(rt: HostRuntime) {
     let alloc = rt.alloc();
-    let mut world = begun(&rt, alloc, &RUN_WITH_A_FAILURE, 0);
-    settle(&rt, alloc, &mut world);
-    let mut world = taken_up(&rt, alloc, world);
+    let mut world = begun(&rt, alloc, &RUN_WITH_A_FAILURE, PASSED_ON);
+    check_frames(&rt, &world, &[(2, 1), (1, 0)]);
+    let stored = play(&rt, alloc, &mut world, Event::Flush { process: 1 });
+    assert_eq!(&rt; stored, Answer::Noted(1));
+    let answer = play(&rt, alloc, &mut world, Event::Restart);
+    assert_eq!(&rt; answer, Answer::Restarted);
+    check_frames(&rt, &world, &[]);
     resume_all(&rt, alloc, &mut world);
-    drive(&rt, alloc, &mut world);
-    let last = world.last_received().map(|entry| entry.ssn);
-    assert_eq!(&rt; last, world.received().last().map(|entry| entry.ssn));
-    assert!(&rt; last.is_some());
+    let run = Event::Run {
+        process: 1,
+        fuel: 100,
+    };
+    let _ = play(&rt, alloc, &mut world, run);
+    check_frames(&rt, &world, &[(1, 0)]);
 }

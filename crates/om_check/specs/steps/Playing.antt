@@ -1,13 +1,13 @@
 -- What playing keeps.
 use Rattle.std.specs.Prelude.{◌≡◌, ◌⊎◌, ℕ, ◌<◌, ◌≤◌, List, [], ◌∷◌, ◌++◌, Some, length, slice_get, slice_index}
+use Rattle.om_format.specs.declared.message.Message.{Message}
 use Rattle.om_format.specs.declared.queue.QueueEntry.{QueueEntry}
 use Rattle.om_process.specs.Claims.{HasEntry}
 use Rattle.om_process.specs.Core.{CoreState, cluster_size, move_of, status_of}
 use Rattle.om_process.specs.declared.status.Status.TheVariants.{Waiting}
 use Rattle.om_process.specs.Process.{Program}
-use Rattle.om_world.specs.World.{WorldState}
 use Rattle.om_world.specs.Played.{Step}
-use Rattle.om_world.specs.World.{IsKnown}
+use Rattle.om_world.specs.World.{IsKnown, WorldState, entry_of}
 use Rattle.om_world.specs.declared.entry.Entry.{Entry}
 use Rattle.om_world.specs.declared.event.Event.{Event}
 use Rattle.om_world.specs.declared.event.Answer.{Answer}
@@ -35,17 +35,20 @@ StaysARun before old after new = (programs : List Program) → IsUnderWay progra
 abbrev pub KeepsLive : WorldState → WorldState → Type 0
 KeepsLive old new = (programs : List Program) → IsUnderWay programs old → new.live ≡ old.live
 
--- something was received
-abbrev pub HasReceived : WorldState → WorldState → Type 0
-HasReceived old new = (programs : List Program) → IsUnderWay programs old → (e : Entry) × (new.live ≡ old.live ++ e ∷ [])
+-- the frame of this number was received
+abbrev pub IsTaken : WorldState → ℕ → WorldState → Type 0
+IsTaken old frame new = (m : Message) × (slice_get old.frames frame ≡ Some m) × (new.live ≡ old.live ++ entry_of m ∷ [])
+
+abbrev pub HasReceived : WorldState → ℕ → WorldState → Type 0
+HasReceived old frame new = (programs : List Program) → IsUnderWay programs old → IsTaken old frame new
+
+-- it is from the one process to the other
+abbrev pub IsOf : WorldState → ℕ → ℕ → ℕ → Type 0
+IsOf w frame from to = (m : Message) × (slice_get w.frames frame ≡ Some m) × (m.from ≡ from) × (m.to ≡ to)
 
 -- something of these two was received
 abbrev pub HasDelivered : WorldState → WorldState → ℕ → ℕ → Type 0
 HasDelivered old new from to = (programs : List Program) → IsUnderWay programs old → (e : Entry) × (new.live ≡ old.live ++ e ∷ []) × (e.from ≡ from) × (e.to ≡ to)
-
--- it was received last
-abbrev pub IsLast : List Entry → Entry → Type 0
-IsLast live e = (before : List Entry) × (live ≡ before ++ e ∷ [])
 
 -- the one process keeps for the other what was not received there
 abbrev pub HasMoreFor : CoreState → CoreState → Type 0

@@ -3,7 +3,7 @@ use Rattle.std.specs.Prelude.{◌≡◌, ◌⊎◌, ◌↔◌, ℕ, ◌+◌, ◌
 use Rattle.std.specs.FinMap.{get}
 use Rattle.std.specs.List.{flat_map}
 use Rattle.om_stable.specs.Content.{Content, IsEffective, IsFree}
-use Rattle.om_process.specs.Stored.{Anyone, CanReplay}
+use Rattle.om_process.specs.Stored.{anyone, CanReplay}
 use Rattle.om_process.specs.declared.limits.TheConstants.{LAST_INTERVAL}
 use Rattle.om_look.specs.Lines.{AreLines, IsCheckpointLine, IsReceiptLine}
 use Rattle.om_look.specs.steps.Ranges.{up_to}
@@ -65,8 +65,8 @@ pub record AreFound (held : Content) (next : Option ℕ) (fs : List Found) : Typ
   pub are_of : AreOf rows fs
   pub all : up_to held.checkpoints LAST_INTERVAL ≡ left held next ++ rows
   pub ordered : AreOrdered (behind next) fs
-  pub replayed : (y : ℕ) → LiesBehindOne fs y → CanReplay Anyone held y
-  pub covered : (y : ℕ) → behind next ≤ y → y ≤ LAST_INTERVAL → CanReplay Anyone held y → LiesBehindOne fs y
+  pub replayed : (y : ℕ) → LiesBehindOne fs y → CanReplay anyone held y
+  pub covered : (y : ℕ) → behind next ≤ y → y ≤ LAST_INTERVAL → CanReplay anyone held y → LiesBehindOne fs y
 
 -- their lines, one after another
 abbrev pub lines_text : List Found → List ℕ

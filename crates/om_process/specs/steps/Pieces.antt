@@ -9,7 +9,7 @@ use Rattle.om_format.specs.Queues.{QueueRecord}
 use Rattle.om_format.specs.Receipts.{ReceiptRecord, SpellsReceipt}
 use Rattle.om_process.specs.Process.{Process, Received, empty_queue}
 use Rattle.om_process.specs.Turns.{Leads, Turns}
-use Rattle.om_process.specs.Parts.{KeepsQueue}
+use Rattle.om_process.specs.Parts.{IsTrimmedQueue}
 use Rattle.om_process.specs.Replays.{received_of}
 use Rattle.om_process.specs.Core.{CoreState, LoggedRecord}
 use Rattle.om_process.specs.Frames.{message_of}
@@ -46,7 +46,7 @@ From own n s h k t = (a : Process) × Leads own n h s a × Turns own n k a t
 
 -- each of the second queues has the last entries of the first ones
 abbrev pub KeepQueues : List QueueRecord → List QueueRecord → Type 0
-KeepQueues whole part = AllZip KeepsQueue whole part
+KeepQueues whole part = AllZip IsTrimmedQueue whole part
 
 -- the bytes spell the receipts of a log, one by one
 abbrev pub SpellLog : List LoggedRecord → List (List ℕ) → Type 0

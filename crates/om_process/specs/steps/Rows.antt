@@ -11,7 +11,7 @@ use Rattle.om_process.specs.declared.replay.ReplayFault.TheVariants.{NoCheckpoin
 use Rattle.om_process.specs.Process.{Process}
 use Rattle.om_process.specs.Replays.{Replayed, process_of}
 use Rattle.om_process.specs.Core.{CoreState, cluster_size}
-use Rattle.om_process.specs.Stored.{Anyone, AreReceiptsAfter, IsDamagedCheckpoint, IsReceiptAt}
+use Rattle.om_process.specs.Stored.{anyone, AreReceiptsAfter, IsDamagedCheckpoint, IsReceiptAt}
 use Rattle.om_process.specs.steps.Fitting.{DoesNotFit}
 
 -- rows rise from above an interval to x at most
@@ -69,7 +69,7 @@ RefusesCheckpoint y bytes _ = ⊥
 -- why no checkpoint is found with which a replay to x begins
 abbrev pub RefusesStart : Content → ℕ → ReplayFault → Type 0
 RefusesStart held x NoCheckpoint = IsFree held.checkpoints 0 (x + 1)
-RefusesStart held x (Damaged y) = IsDamagedCheckpoint Anyone held x y
+RefusesStart held x (Damaged y) = IsDamagedCheckpoint anyone held x y
 RefusesStart held x Fault = Unit {0}
 RefusesStart held x Memory = Unit {0}
 RefusesStart held x _ = ⊥

@@ -1,7 +1,7 @@
 -- How an answer ends that is written to standard output, with which status, and what a debugger is refused for.
 use Rattle.std.specs.Prelude.{◌≡◌, ◌⊎◌, ℕ, List, None, Ok, Err, Result}
 use Rattle.om_arguments.specs.declared.arguments.Request.TheVariants as requests
-use Rattle.om_arguments.specs.declared.debug_request.Symbols.{Symbols as Given}
+use Rattle.om_arguments.specs.declared.debug_request.SymbolFile.{SymbolFile as Given}
 use Rattle.om_commands.specs.Command.{IsSilent}
 use Rattle.om_commands.specs.declared.error.CommandError.TheVariants.{CannotWrite}
 use Rattle.om_debug_command.specs.Debug.{IsErrorOfDebug}
@@ -9,7 +9,7 @@ use Rattle.om_debug_command.specs.declared.error.DebugError.{DebugError}
 use Rattle.om_debug_command.specs.declared.error.DebugError.TheVariants.{NoSuchName, Refused}
 use Rattle.om_outcomes.specs.declared.failure.Failure.{Failure}
 use Rattle.om_outcomes.specs.declared.failure.Failure.TheVariants as failures
-use Rattle.om_program.specs.Answers.{IsErrorOfShown}
+use Rattle.om_program.specs.Answers.{IsErrorOfDebugging}
 use Rattle.om_program.specs.Refusals.{IsRefusal}
 
 -- the end of such an outcome: that nobody wants more is no refusal
@@ -28,7 +28,7 @@ abbrev pub IsRefusalOfAll : List Given → List ℕ → DebugError → Type 0
 IsRefusalOfAll given bytes error = IsRefusal (requests.Debug None) given bytes error
 
 abbrev pub IsRefusalOfOne : List ℕ → List ℕ → DebugError → Type 0
-IsRefusalOfOne name bytes (Refused error) = IsErrorOfShown (IsErrorOfDebug bytes name) error
+IsRefusalOfOne name bytes (Refused error) = IsErrorOfDebugging (IsErrorOfDebug bytes name) error
 IsRefusalOfOne name bytes NoSuchName = ⊥
 
 -- the status that the program ends with: where nobody reads on it is that of a program that the signal SIGPIPE, 13, ended

@@ -1,27 +1,29 @@
 -- What all workers bring back.
-use Rattle.std.specs.Prelude.{◌≡◌, ℕ, ◌<◌, ◌≤◌, List, Bool, IfOk, IsTrue, Option, None, Some, Result, Ok, Err, Vec, length, slice_get, slice_index_or}
-use Rattle.std.specs.declared.alloc.Global.{Global}
-use Rattle.om_manager.specs.declared.output_log.Output.{Output}
+use Rattle.std.specs.Prelude.{◌≡◌, ℕ, ◌<◌, All, List, Bool, IfOk, Option, None, Some, Result, Ok, Err, length, slice_get, slice_index_or}
 use Rattle.om_process.specs.Images.{program_of}
 use Rattle.om_process.specs.declared.image.Image.{Image}
-use Rattle.om_process.specs.declared.status.Status.{Status}
-use Rattle.om_node.specs.Ends.{IsWholeRun}
+use Rattle.om_process.specs.Core.{IsEnd}
 use Rattle.om_worker_parts.specs.declared.config.Config.{Config}
 use Rattle.om_report.specs.declared.fault.RunFault.{RunFault}
 use Rattle.om_report.specs.declared.fault.RunFault.TheVariants.{Turns, GateShut, Memory, Fault, Load, StoreInUse, AnotherCluster, StoreMissing, NoThread}
+use Rattle.om_report.specs.Harvests.{AreOwn, harvested}
+use Rattle.om_runner.specs.Reports.{AreWholeOver}
+use Rattle.om_runner.specs.declared.results.Parts.{Parts}
 use Rattle.om_runner.specs.declared.starting.EndOf.{EndOf}
+use Rattle.om_runner.specs.steps.Settling.{ArePasses}
 use Rattle.om_worker.specs.declared.finished.Finished.{Finished}
 use Rattle.om_worker_parts.specs.Network.{Lines}
 use Rattle.om_worker.specs.Ends.{IsEndOf, IsOwnEnd}
 
--- by process: where its store is clean, it comes to its status along its image, and of the outputs that it has then made none
--- is left out
-abbrev pub HaveAllOver : {S : Type 0} → (S → Bool) → List Image → List Status → List (Vec Output Global) → List S → Type 0
-HaveAllOver is_clean images statuses released stores =
-    (p : ℕ) (image : Image) (status : Status) (outputs : Vec Output Global) (store : _)
-    → slice_get images p ≡ Some image → slice_get statuses p ≡ Some status → slice_get released p ≡ Some outputs
-    → slice_get stores p ≡ Some store → IsTrue (is_clean store)
-    → (count : ℕ) × IsWholeRun (program_of image) p (length images) status count × (count ≤ length outputs.items)
+-- what the workers of a cluster of these images brought back, when each had ended well
+pub record AreParts {K S : Type 0} (is_clean : S → Bool) (images : List Image) (lines : Lines) (parts : Parts K S) : Type 0 where
+  pub passes : ArePasses (length lines) lines parts.puts.items parts.takes.items
+  pub statuses : length parts.statuses.items ≡ length images
+  pub stores : length parts.stores.items ≡ length images
+  pub harvests : length parts.harvests.items ≡ length images
+  pub ended : All IsEnd parts.statuses.items
+  pub of_each : AreOwn parts.harvests.items
+  pub whole : AreWholeOver is_clean images parts.statuses.items (harvested parts.harvests.items) parts.stores.items
 
 -- each of n workers that ended well ended so
 abbrev pub AreEndsOf : {K S E : Type 0} → (S → Bool) → List Image → Lines → ℕ → List (Result (Finished K S) E) → Type 0

@@ -1,9 +1,9 @@
 -- A tape as it is taken, event by event.
-use Rattle.std.specs.Prelude.{◌≡◌, ℕ, ◌-◌, ◌<◌, ◌≤◌, List, [], ◌∷◌, length, slice_get, take, IfSome, Option, None, Some}
+use Rattle.std.specs.Prelude.{◌≡◌, ℕ, ◌<◌, ◌≤◌, List, [], ◌∷◌, length, slice_get, take, IfSome, Option, None, Some}
+use Rattle.om_format.specs.declared.message.Message.{Message}
 use Rattle.om_machine.specs.State.{State}
 use Rattle.om_process.specs.Core.{CoreState, cluster_size}
 use Rattle.om_process.specs.declared.limits.TheConstants.{LAST_NUMBER}
-use Rattle.om_world.specs.declared.entry.Entry.{Entry}
 use Rattle.om_world.specs.declared.event.Answer.{Answer}
 use Rattle.om_world.specs.declared.event.Event.{Event}
 use Rattle.om_world.specs.Holds.{Holds}
@@ -20,12 +20,12 @@ use Rattle.om_timeline.specs.Shown.{InRun, machine_of}
 use Rattle.om_timeline.specs.steps.Kinds.{IsKind}
 use Rattle.om_timeline.specs.steps.Parts.{PlayerState}
 
--- what was received last is from this process, with these bytes
-pub record IsReceived (w : WorldState) (from : ℕ) (body : List ℕ) : Type 0 where
-  pub entry : Entry
-  pub is_last : slice_get w.live (length w.live - 1) ≡ Some entry
-  pub is_from : from ≡ entry.from
-  pub is_body : body ≡ entry.body
+-- the frame of this number is from this process, with these bytes
+pub record IsFrom (w : WorldState) (frame from : ℕ) (body : List ℕ) : Type 0 where
+  pub message : Message
+  pub there : slice_get w.frames frame ≡ Some message
+  pub is_from : from ≡ message.from
+  pub is_body : body ≡ message.body
 
 -- there is no core of the process
 abbrev pub IsNowhere : ℕ → WorldState → Type 0
@@ -39,7 +39,7 @@ IsMachineAt p w m = (c : CoreState) × (slice_get w.cores p ≡ Some (Some c)) �
 abbrev pub IsDeed : Deed → ℕ → WorldState → Kind → Type 0
 IsDeed Nothing p w kind = kind ≡ kinds.Nothing
 IsDeed (Ran turns) p w kind = kind ≡ kinds.Ran turns
-IsDeed (Took from body) p w kind = (kind ≡ kinds.Took) × IsReceived w from body
+IsDeed (Took from body) p w kind = (frame : ℕ) × (kind ≡ kinds.Took frame) × IsFrom w frame from body
 IsDeed Fell p w kind = IsNowhere p w
 IsDeed (Back machine) p w kind = IsMachineAt p w machine
 

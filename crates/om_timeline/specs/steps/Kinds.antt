@@ -12,7 +12,7 @@ use Rattle.om_timeline.specs.declared.kind.Kind.TheVariants as kinds
 
 abbrev pub kind_of : ℕ → Answer → Event → Kind
 kind_of p (Ran steps status sent made) (Run q fuel) = if nat_eq q p then kinds.Ran steps else kinds.Nothing
-kind_of p (Given (Taken x)) (Give q frame) = if nat_eq q p then kinds.Took else kinds.Nothing
+kind_of p (Given (Taken x)) (Give q frame) = if nat_eq q p then kinds.Took frame else kinds.Nothing
 kind_of p (Back interval inc) (Resume q) = if nat_eq q p then kinds.Back else kinds.Nothing
 kind_of p (Refused Memory) event = kinds.NoMemory
 kind_of p answer event = kinds.Nothing
@@ -22,6 +22,6 @@ abbrev pub IsKind : ℕ → Answer → Event → Kind → Type 0
 IsKind p a e kinds.Nothing = kind_of p a e ≡ kinds.Nothing
 IsKind p a e (kinds.Ran steps) =
     (fuel : ℕ) × (status : Status) × (sent : ℕ) × (made : ℕ) × (a ≡ Ran steps status sent made) × (e ≡ Run p fuel)
-IsKind p a e kinds.Took = (x : ℕ) × (frame : ℕ) × (a ≡ Given (Taken x)) × (e ≡ Give p frame)
+IsKind p a e (kinds.Took frame) = (x : ℕ) × (a ≡ Given (Taken x)) × (e ≡ Give p frame)
 IsKind p a e kinds.Back = (interval : ℕ) × (inc : ℕ) × (a ≡ Back interval inc) × (e ≡ Resume p)
 IsKind p a e kinds.NoMemory = Unit {0}

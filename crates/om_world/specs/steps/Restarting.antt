@@ -1,5 +1,5 @@
 -- What the calls of a restart do.
-use Rattle.std.specs.Prelude.{◌≡◌, ◌⊎◌, ℕ, ◌<◌, ◌≤◌, Bool, List, [], slice_get, cond, true, false, Some, length}
+use Rattle.std.specs.Prelude.{◌≡◌, ◌⊎◌, ℕ, ◌<◌, ◌≤◌, Bool, List, [], slice_get, cond, Some, length, true}
 use Rattle.om_interval.specs.Vectors.{IsBelow}
 use Rattle.om_look.specs.Rows.{AreRowsOf}
 use Rattle.om_look.specs.declared.rows.RowsFault.{RowsFault}
@@ -21,14 +21,13 @@ use Rattle.om_world.specs.declared.event.Refusal.{Refusal}
 use Rattle.om_world.specs.declared.event.Refusal.TheVariants as why
 use Rattle.om_world.specs.Changes.{NoneFell}
 use Rattle.om_world.specs.Disk.{CanServe, DependsWithin, held_in}
-use Rattle.om_world.specs.Live.{Legal, cut_list, program_at, received}
+use Rattle.om_world.specs.Live.{Legal, program_at, received}
 use Rattle.om_world.specs.Stopped.{IsWhole}
 use Rattle.om_world.specs.StoreRows.{HasRowsOf, first_row}
 use Rattle.om_world.specs.World.{WorldState, IsKnown, all_clean, output_entry, recovered}
 use Rattle.om_world.specs.declared.entry.Entry.{Entry}
 use Rattle.om_world.specs.steps.Moves.{refusal_of_record}
 use Rattle.om_world.specs.steps.Past.{past_of}
-use Rattle.om_world.specs.steps.Remembered.{fitting}
 use Rattle.om_world.specs.steps.Sound.{EndsAt, IsStored}
 use Rattle.om_world.specs.steps.Running.{refusal_of_output}
 
@@ -107,8 +106,3 @@ refusal_of_take_up (take_ups.Output error) = refusal_of_output error
 -- of what a restart recovers: what was received, where each process knows the last finished round, else what had been before that
 abbrev pub left_run : Bool → WorldState → List Entry
 left_run current w = cond current w.live w.since.before
-
--- and what it leaves of it
-abbrev pub begun_live : Bool → (ℕ → ℕ) → List Entry → List Entry → List Entry
-begun_live true s live before = cut_list s live
-begun_live false s live before = fitting s (cut_list s before)

@@ -6,7 +6,7 @@ use Rattle.om_process.specs.declared.replay.ReplayFault.{ReplayFault}
 use Rattle.om_process.specs.declared.replay.ReplayFault.TheVariants.{Fault}
 use Rattle.om_process.specs.Core.{CoreState, cluster_size}
 use Rattle.om_process.specs.Resumes.{resumed}
-use Rattle.om_process.specs.Stored.{CanReplay, IsNoMatterOfContent, IsReplay, TheProcess}
+use Rattle.om_process.specs.Stored.{CanReplay, IsNoMatterOfContent, IsReplay, the_process}
 use Rattle.om_manager.specs.State.{ManagerState, process_count}
 use Rattle.om_world.specs.declared.process_state.ProcessState.{ProcessState}
 use Rattle.om_world.specs.Changes.{HasFailed, NoneFell}
@@ -28,7 +28,7 @@ abbrev pub IsRolledBack : ManagerState → ℕ → Result CoreState ReplayFault 
 IsRolledBack m p (Ok core) before after =
     IsReplay before (slice_index m.last p) core × (after ≡ kept_by_cut before (slice_index m.last p))
 IsRolledBack m p (Err fault) before after =
-    (after ≡ before) × (CanReplay (TheProcess p (process_count m)) before (slice_index m.last p) → IsNoMatterOfContent fault)
+    (after ≡ before) × (CanReplay (the_process p (process_count m)) before (slice_index m.last p) → IsNoMatterOfContent fault)
 
 -- a process that was down is up again with this core, and its store is cut
 pub record HasComeBack (old : WorldState) (p : ℕ) (core : CoreState) (new : WorldState) : Type 0 where

@@ -24,7 +24,7 @@ returns-in-Err g c =
     let same = refused_same (state c.loop-count.access) (state c.tell.new.access) c.args.round (row_for c.args.pid row) c.in-Err.fault answers in
     record {
       within = c.loop-count.auto.count-end;
-      told = subst (λ (m : ManagerState). AreTold (state c.args.access.now) c.args.round c.args.pid (take i rows) m) (sym same) c.loop-count.invariant;
+      done = subst (λ (m : ManagerState). AreTold (state c.args.access.now) c.args.round c.args.pid (take i rows) m) (sym same) c.loop-count.invariant;
       all = tt;
       refused = (row, at, subst (λ (m : ManagerState). Notes m c.args.round (row_for c.args.pid row) (Err c.in-Err.fault) (state c.tell.new.access)) (sym same) answers);
     }

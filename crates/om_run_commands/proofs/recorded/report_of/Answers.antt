@@ -8,4 +8,4 @@ returns-in-Ok-clause-report g c =
     let run = c.run_and_record in
     report_of_run ((store : g.row.O-Store.Denot) → IsTrue (g.O.Store.Stable.is_clean store)) (programs_of c.args.script.now.cluster)
     c.in_ok-config.config.images.items run.result c.in-Ok.report c.in-Ok.is c.in_ok-config.ensures.programs
-    run.ensures.released run.ensures.made run.ensures.processes run.ensures.statuses run.ensures.ended run.ensures.along run.ensures.whole
+    run.ensures.report

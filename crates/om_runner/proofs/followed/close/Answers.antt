@@ -1,51 +1,26 @@
-use Rattle.std.proofs.Common.{◌≡◌, ◌≢◌, ◌∙◌, List, length, subst, sym}
-use Rattle.std.specs.Prelude.{IfErr, IfOk, Vec}
+use Rattle.std.proofs.Common.{◌≡◌, subst, sym}
+use Rattle.std.specs.Prelude.{IfOk, Vec}
 use Rattle.std.specs.declared.alloc.Global.{Global}
-use Rattle.std.proofs.lemmas.List.{length-map}
-use Rattle.om_process.specs.declared.status.Status.{Status}
-use Rattle.om_report.specs.Released.{AreAllMade}
-use Rattle.om_report.specs.Telling.{AreInOrder, AreToldMade, Told, TellsAll}
-use Rattle.om_report.specs.declared.follower.FollowFault.TheVariants.{Unwanted}
-use Rattle.om_runner.specs.Reports.{AreWholeOver}
-use Rattle.om_runner.specs.steps.Ends.{HaveAllOver}
-use Rattle.om_report.specs.Harvests.{AreNoFewer, HarvestState, harvested}
-use Rattle.om_runner.proofs.ReportLemmas.{have_more}
+use Rattle.om_report.specs.Harvests.{AreOwn, HarvestState, harvested}
+use Rattle.om_runner.specs.steps.Ends.{AreParts}
+use Rattle.om_runner.proofs.ReportLemmas.{followed_report}
 use Rattle.om_runner.proofs.followed.close.Goals as goal
 
-pub returns-in-Ok-report-clause-all : goal.returns-in-Ok-report-clause-all
-returns-in-Ok-report-clause-all g c =
+pub returns-clause-report : goal.returns-clause-report
+returns-clause-report g c =
     let is_clean = g.O.Store.Stable.is_clean in
+    let k = g.K.Naming in
     let images = c.args.cluster.now.plan.now.images.items in
-    let parts = c.in-Ok.parts in
+    let lines = c.args.cluster.now.inboxes.now in
     let brought = c.settled-statuses in
-    let report = c.in-Ok-report.report in
-    let few = harvested brought.result.1.items in
-    let whole = subst (λ r. IfOk r (λ p. AreWholeOver is_clean images p.statuses.items (harvested p.harvests.items) p.stores.items)) c.in-Ok.is c.requires.whole in
-    let many = subst (λ r. IfOk r (λ p. length p.harvests.items ≡ length images)) c.in-Ok.is c.requires.harvests in
-    let more = subst (λ r. IfOk r (λ x. AreNoFewer few x.released.items)) c.in-Ok-report.is
-    (c.into_report-report.ensures.brought few c.complete-following.ensures.brought) in
-    let told = subst (λ r. IfOk r (λ x. x.statuses ≡ brought.result.0)) c.in-Ok-report.is c.into_report-report.ensures.statuses in
-    subst (λ (v : Vec Status Global). HaveAllOver is_clean images v.items report.released.items brought.result.2.items) (sym (told ∙ brought.ensures.statuses))
-    (subst (λ (v : Vec _ Global). HaveAllOver is_clean images parts.statuses.items report.released.items v.items) (sym brought.ensures.stores)
-    (have_more is_clean images parts.statuses.items (harvested parts.harvests.items) report.released.items parts.stores.items
-    (length-map parts.harvests.items (λ (h : HarvestState). h.outputs) ∙ many)
-    (subst (λ (v : Vec HarvestState Global). AreNoFewer (harvested v.items) report.released.items) brought.ensures.harvests more) whole))
+    let are = subst (λ r. IfOk r (AreParts is_clean images lines)) c.in-Ok.is c.requires.parts in
+    let told = c.into_report.ensures in
+    followed_report is_clean k.OverClean k.programs k.cell.n images lines c.in-Ok.parts brought.result.1 brought.result.0 c.into_report.result.0
+    c.requires.programs c.requires.images c.requires.clean are brought.ensures.harvests brought.ensures.statuses
+    told.released told.made (told.brought (harvested brought.result.1.items) c.complete-following.ensures.brought) told.processes told.statuses
 
-pub returns-in-Ok-report-clause-told : goal.returns-in-Ok-report-clause-told
-returns-in-Ok-report-clause-told g c = λ start was.
-    let follower = c.into_report-report.result.1 in
-    subst (λ r. IfOk r (λ report. (told : List Told) × g.F.Follower.Tells start follower told × TellsAll told report.released.items)) c.in-Ok-report.is
-    (c.into_report-report.ensures.told start (c.complete-following.ensures.followed start was))
+pub returns-clause-told : goal.returns-clause-told
+returns-clause-told g c = λ start was. c.into_report.ensures.told start (c.complete-following.ensures.followed start was)
 
-pub returns-in-Err-report-clause-partly : goal.returns-in-Err-report-clause-partly
-returns-in-Err-report-clause-partly g c = λ start was.
-    let follower = c.into_report-report.result.1 in
-    let k = g.K.Naming in
-    subst (λ r. IfErr r (λ fault. fault ≢ Unwanted → (told : List Told) × g.F.Follower.Tells start follower told × AreInOrder told
-    × (k.OverClean → AreToldMade k.programs k.cell.n told))) c.in-Err-report.is
-    (c.into_report-report.ensures.partly start (c.complete-following.ensures.followed start was))
-
-pub returns-in-Ok-report-clause-made : goal.returns-in-Ok-report-clause-made
-returns-in-Ok-report-clause-made g c = λ clean.
-    let k = g.K.Naming in
-    subst (λ r. IfOk r (λ report. AreAllMade k.programs k.cell.n report.released.items)) c.in-Ok-report.is (c.into_report-report.ensures.made clean)
+pub returns-clause-partly : goal.returns-clause-partly
+returns-clause-partly g c = λ start was. c.into_report.ensures.partly start (c.complete-following.ensures.followed start was)

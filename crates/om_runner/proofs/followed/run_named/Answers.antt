@@ -2,7 +2,6 @@ use Rattle.std.proofs.Common.{◌≡◌, ◌≢◌, ◌∙◌, ℕ, List, length
 use Rattle.std.specs.Prelude.{IfErr}
 use Rattle.om_board.specs.CellNames.{CellName}
 use Rattle.om_runner.proofs.ToldLemmas.{told_at_start}
-use Rattle.om_runner.proofs.ReportLemmas.{made_of_images}
 use Rattle.om_process.specs.Process.{Program}
 use Rattle.om_report.specs.Telling.{AreInOrder, AreToldMade, Told}
 use Rattle.om_report.specs.declared.follower.FollowFault.TheVariants.{Unwanted}
@@ -28,10 +27,3 @@ returns-clause-partly g c =
     × AreInOrder told × (k.OverClean → AreToldMade ps n told)) in
     subst (λ ps. Partly ps (length images)) c.requires.programs
     (subst (Partly k.programs) n_is (c.close.ensures.partly c.args.follower (c.run_workers-parts.ensures.beside c.args.follower (λ wanted. first))))
-
-pub returns-clause-made : goal.returns-clause-made
-returns-clause-made g c = λ clean.
-    let k = g.K.Naming in
-    let images = c.args.plan.now.images.items in
-    let n_is : k.cell.n ≡ length images = ap (λ (cell : CellName). cell.n) (sym c.requires.named) ∙ c.requires.size in
-    made_of_images (λ r. r.0.released.items) k.programs k.cell.n images c.close.result.0 c.requires.programs n_is (c.close.ensures.made clean)

@@ -10,4 +10,4 @@ returns-clause-run c =
     (subst (λ k. WasPlayed c.args.self.now.stage.world (Event.Give k c.args.frame) c.give.new.world) (sym c.index-process.ensures.place) c.in_ok-give.ensures.played)
 
 pub returns-clause-live : goal.returns-clause-live
-returns-clause-live c = received_known _ _ c.in_ok-give.ensures.way c.in_ok-give.ensures.live
+returns-clause-live c = received_known _ _ _ c.in_ok-give.ensures.way c.in_ok-give.ensures.live

@@ -1,35 +1,19 @@
-use Rattle.std.proofs.Common.{◌≡◌, ◌<◌, ◌∙◌, ◌++◌, ◌∷◌, [], ap, sym, subst, slice_get, Some, Err, rules, refl}
+use Rattle.std.proofs.Common.{◌≡◌, ◌<◌, ◌∙◌, sym, subst, slice_get, Some, Err, rules, refl}
 use Rattle.om_process.specs.declared.accept.Accept.TheVariants as accepts
 use Rattle.om_world.specs.declared.event.Event.{Event}
 use Rattle.om_world.specs.declared.event.Refusal.TheVariants as refusals
 use Rattle.om_world.specs.Changes.{IsUp}
 use Rattle.om_world.specs.Happened.{GiveHappened, Happened}
-use Rattle.om_world.specs.World.{WorldState}
+use Rattle.om_world.specs.World.{WorldState, entry_of}
 use Rattle.om_world.specs.steps.Members.{health_of}
 use Rattle.om_world.specs.steps.Moves.{Keeps, answered}
 use Rattle.om_world.proofs.Acting.{offered_as_seen, offered_in, offered_world}
-use Rattle.om_world.proofs.Giving.{after_give, after_none, given_taken, none_taken, no_room, none_given, given_none, room_none}
-use Rattle.om_world.proofs.Keeping.{keeps_by, keeps_seen}
+use Rattle.om_world.proofs.Giving.{after_give, after_none, given_none, given_taken, no_room, none_given, none_taken}
+use Rattle.om_world.proofs.Keeping.{keeps_by}
 use Rattle.om_world.proofs.Lists.{lent_at}
 use Rattle.om_world.proofs.NotRunning.{told_not_running}
 use Rattle.om_world.proofs.Seats.{here, is_up, stands_up}
 use Rattle.om_world.proofs.world.World.give.Goals as goal
-
-pub returns-in_err-entry-clause-happened : goal.returns-in_err-entry-clause-happened
-returns-in_err-entry-clause-happened g c =
-    let s = c.self.inside in
-    let frame : slice_get s.frames.items c.args.f ≡ Some c.index-message.result.now = lent_at _ c.args.f _ (subst (λ n. c.args.f < n) (c.len.ensures ∙ c.self.inside.frames.ok.0) c.if-f-len.false) c.index-message.ensures in
-    let is : c.from_residual-in_err-entry.result ≡ Err refusals.Memory = search rules in
-    let up = subst (λ (w : WorldState). IsUp w c.args.p) (sym c.self.view_is) c.in_ok-is_up.ensures.up in
-    subst (λ (w : WorldState). Happened w (Event.Give c.args.p c.args.f) (answered c.from_residual-in_err-entry.result) w) c.self.view_is
-    (no_room _ _ c.args.p c.args.f c.index-message.result.now c.from_residual-in_err-entry.result up c.self.invariant.shape frame is refl)
-
-pub returns-in_err-make_room-clause-happened : goal.returns-in_err-make_room-clause-happened
-returns-in_err-make_room-clause-happened g c =
-    let frame : slice_get c.self.inside.frames.items c.args.f ≡ Some c.index-message.result.now = lent_at _ c.args.f _ (subst (λ n. c.args.f < n) (c.len.ensures ∙ c.self.inside.frames.ok.0) c.if-f-len.false) c.index-message.ensures in
-    let is : c.from_residual-in_err-make_room.result ≡ Err refusals.Memory = search rules in
-    let up = subst (λ (w : WorldState). IsUp w c.args.p) (sym c.self.view_is) c.in_ok-is_up.ensures.up in
-    room_none _ _ c.make_room.new.self.entries c.args.p c.args.f c.index-message.result.now c.from_residual-in_err-make_room.result c.self.view_is up c.self.invariant.shape frame is c.in_err-make_room.ensures.entries
 
 pub index_mut-member-requires : goal.index_mut-member-requires
 index_mut-member-requires g c = subst (λ n. c.args.p < n) (sym c.self.inside.members.ok.0) (here g.S.Stable.content (health_of g.S.Stable.is_clean g.S.Stable.failed) g.S.Stable.IsSound _ _ _ _ _ _ c.args.p _ c.self.invariant c.self.view_is c.in_ok-is_up.ensures.there)
@@ -40,8 +24,8 @@ invariant_of-self-in-Taken g c =
     let up = subst (λ (w : WorldState). IsUp w c.args.p) (sym c.self.view_is) c.in_ok-is_up.ensures.up in
     let at = lent_at _ c.args.p _ (here g.S.Stable.content (health_of g.S.Stable.is_clean g.S.Stable.failed) g.S.Stable.IsSound _ _ _ _ _ _ c.args.p _ c.self.invariant c.self.view_is c.in_ok-is_up.ensures.there) c.index_mut-member.ensures.value in
     let o = offered_in g.S.Stable.content g.S.Stable.is_clean g.S.Stable.failed g.S.Stable.IsSound _ _ _ _ _ _ c.args.p _ at _ _ c.self.invariant c.self.view_is c.index-message.result.now c.in_ok-told.told c.in_ok-told.ensures.offered (accepts.Taken c.in-Taken.x) c.in-Taken.is in
-    offered_world g.S.Stable.content g.S.Stable.is_clean g.S.Stable.failed g.S.Stable.IsSound _ _ _ _ _ _ c.args.p _ at _ _ c.self.invariant c.self.view_is c.index-message.result.now c.in_ok-told.told c.in_ok-told.ensures.offered c.add.new.self.entries
-    (after_give _ _ _ c.args.p c.args.f c.in-Taken.x c.index-message.result.now c.in_ok-entry.entry _ c.add.new.self.entries c.self.invariant up frame c.in_ok-entry.ensures o (c.add.ensures ∙ ap (λ l. l ++ c.in_ok-entry.entry ∷ []) c.in_ok-make_room.ensures.entries))
+    offered_world g.S.Stable.content g.S.Stable.is_clean g.S.Stable.failed g.S.Stable.IsSound _ _ _ _ _ _ c.args.p _ at _ _ c.self.invariant c.self.view_is c.index-message.result.now c.in_ok-told.told c.in_ok-told.ensures.offered c.longer-self-inside.result.entries
+    (after_give _ _ _ c.args.p c.args.f c.in-Taken.x c.index-message.result.now (entry_of c.index-message.result.now) _ c.longer-self-inside.result.entries c.self.invariant up frame refl o c.longer-self-inside.ensures)
 
 pub returns-in-Taken-clause-happened : goal.returns-in-Taken-clause-happened
 returns-in-Taken-clause-happened g c =
@@ -49,14 +33,14 @@ returns-in-Taken-clause-happened g c =
     let up = subst (λ (w : WorldState). IsUp w c.args.p) (sym c.self.view_is) c.in_ok-is_up.ensures.up in
     let at = lent_at _ c.args.p _ (here g.S.Stable.content (health_of g.S.Stable.is_clean g.S.Stable.failed) g.S.Stable.IsSound _ _ _ _ _ _ c.args.p _ c.self.invariant c.self.view_is c.in_ok-is_up.ensures.there) c.index_mut-member.ensures.value in
     let o = offered_in g.S.Stable.content g.S.Stable.is_clean g.S.Stable.failed g.S.Stable.IsSound _ _ _ _ _ _ c.args.p _ at _ _ c.self.invariant c.self.view_is c.index-message.result.now c.in_ok-told.told c.in_ok-told.ensures.offered (accepts.Taken c.in-Taken.x) c.in-Taken.is in
-    offered_as_seen g.S.Stable.content g.S.Stable.is_clean g.S.Stable.failed g.S.Stable.IsSound _ _ _ _ _ _ c.args.p _ at _ _ c.self.invariant c.self.view_is c.index-message.result.now c.in_ok-told.told c.in_ok-told.ensures.offered c.add.new.self.entries (λ v z. GiveHappened v c.args.p c.args.f (accepts.Taken c.in-Taken.x) z)
-    (given_taken _ c.args.p c.args.f c.in-Taken.x c.index-message.result.now c.in_ok-entry.entry _ c.add.new.self.entries up frame c.in_ok-entry.ensures o (c.add.ensures ∙ ap (λ l. l ++ c.in_ok-entry.entry ∷ []) c.in_ok-make_room.ensures.entries))
+    offered_as_seen g.S.Stable.content g.S.Stable.is_clean g.S.Stable.failed g.S.Stable.IsSound _ _ _ _ _ _ c.args.p _ at _ _ c.self.invariant c.self.view_is c.index-message.result.now c.in_ok-told.told c.in_ok-told.ensures.offered c.longer-self-inside.result.entries (λ v z. GiveHappened v c.args.p c.args.f (accepts.Taken c.in-Taken.x) z)
+    (given_taken _ c.args.p c.args.f c.in-Taken.x c.index-message.result.now (entry_of c.index-message.result.now) _ c.longer-self-inside.result.entries up frame refl o c.longer-self-inside.ensures)
 
 pub invariant_of-self-in-Memory : goal.invariant_of-self-in-Memory
 invariant_of-self-in-Memory g c =
     let at = lent_at _ c.args.p _ (here g.S.Stable.content (health_of g.S.Stable.is_clean g.S.Stable.failed) g.S.Stable.IsSound _ _ _ _ _ _ c.args.p _ c.self.invariant c.self.view_is c.in_ok-is_up.ensures.there) c.index_mut-member.ensures.value in
     let o = offered_in g.S.Stable.content g.S.Stable.is_clean g.S.Stable.failed g.S.Stable.IsSound _ _ _ _ _ _ c.args.p _ at _ _ c.self.invariant c.self.view_is c.index-message.result.now c.in_ok-told.told c.in_ok-told.ensures.offered accepts.Memory c.in-Memory.is in
-    offered_world g.S.Stable.content g.S.Stable.is_clean g.S.Stable.failed g.S.Stable.IsSound _ _ _ _ _ _ c.args.p _ at _ _ c.self.invariant c.self.view_is c.index-message.result.now c.in_ok-told.told c.in_ok-told.ensures.offered c.make_room.new.self.entries (after_none _ _ _ c.make_room.new.self.entries _ c.self.invariant c.in_ok-make_room.ensures.entries (none_taken _ _ c.args.p c.index-message.result.now accepts.Memory (λ x e. cc) o))
+    offered_world g.S.Stable.content g.S.Stable.is_clean g.S.Stable.failed g.S.Stable.IsSound _ _ _ _ _ _ c.args.p _ at _ _ c.self.invariant c.self.view_is c.index-message.result.now c.in_ok-told.told c.in_ok-told.ensures.offered c.self.inside.live.entries (after_none _ _ _ c.self.inside.live.entries _ c.self.invariant refl (none_taken _ _ c.args.p c.index-message.result.now accepts.Memory (λ x e. cc) o))
 
 pub returns-in-Memory-clause-happened : goal.returns-in-Memory-clause-happened
 returns-in-Memory-clause-happened g c =
@@ -64,14 +48,14 @@ returns-in-Memory-clause-happened g c =
     let up = subst (λ (w : WorldState). IsUp w c.args.p) (sym c.self.view_is) c.in_ok-is_up.ensures.up in
     let at = lent_at _ c.args.p _ (here g.S.Stable.content (health_of g.S.Stable.is_clean g.S.Stable.failed) g.S.Stable.IsSound _ _ _ _ _ _ c.args.p _ c.self.invariant c.self.view_is c.in_ok-is_up.ensures.there) c.index_mut-member.ensures.value in
     let o = offered_in g.S.Stable.content g.S.Stable.is_clean g.S.Stable.failed g.S.Stable.IsSound _ _ _ _ _ _ c.args.p _ at _ _ c.self.invariant c.self.view_is c.index-message.result.now c.in_ok-told.told c.in_ok-told.ensures.offered accepts.Memory c.in-Memory.is in
-    offered_as_seen g.S.Stable.content g.S.Stable.is_clean g.S.Stable.failed g.S.Stable.IsSound _ _ _ _ _ _ c.args.p _ at _ _ c.self.invariant c.self.view_is c.index-message.result.now c.in_ok-told.told c.in_ok-told.ensures.offered c.make_room.new.self.entries (λ v z. Happened v (Event.Give c.args.p c.args.f) (answered (Err refusals.Memory)) z)
-    (no_room _ _ c.args.p c.args.f c.index-message.result.now (Err refusals.Memory) up c.self.invariant.shape frame refl (none_given _ c.make_room.new.self.entries _ c.in_ok-make_room.ensures.entries (none_taken _ _ c.args.p c.index-message.result.now accepts.Memory (λ x e. cc) o)))
+    offered_as_seen g.S.Stable.content g.S.Stable.is_clean g.S.Stable.failed g.S.Stable.IsSound _ _ _ _ _ _ c.args.p _ at _ _ c.self.invariant c.self.view_is c.index-message.result.now c.in_ok-told.told c.in_ok-told.ensures.offered c.self.inside.live.entries (λ v z. Happened v (Event.Give c.args.p c.args.f) (answered (Err refusals.Memory)) z)
+    (no_room _ _ c.args.p c.args.f c.index-message.result.now (Err refusals.Memory) up c.self.invariant.shape frame refl (none_given _ c.self.inside.live.entries _ refl (none_taken _ _ c.args.p c.index-message.result.now accepts.Memory (λ x e. cc) o)))
 
 pub invariant_of-self-in_default : goal.invariant_of-self-in_default
 invariant_of-self-in_default g c =
     let at = lent_at _ c.args.p _ (here g.S.Stable.content (health_of g.S.Stable.is_clean g.S.Stable.failed) g.S.Stable.IsSound _ _ _ _ _ _ c.args.p _ c.self.invariant c.self.view_is c.in_ok-is_up.ensures.there) c.index_mut-member.ensures.value in
     let o = offered_in g.S.Stable.content g.S.Stable.is_clean g.S.Stable.failed g.S.Stable.IsSound _ _ _ _ _ _ c.args.p _ at _ _ c.self.invariant c.self.view_is c.index-message.result.now c.in_ok-told.told c.in_ok-told.ensures.offered c.in_ok-told.told refl in
-    offered_world g.S.Stable.content g.S.Stable.is_clean g.S.Stable.failed g.S.Stable.IsSound _ _ _ _ _ _ c.args.p _ at _ _ c.self.invariant c.self.view_is c.index-message.result.now c.in_ok-told.told c.in_ok-told.ensures.offered c.make_room.new.self.entries (after_none _ _ _ c.make_room.new.self.entries _ c.self.invariant c.in_ok-make_room.ensures.entries (none_taken _ _ c.args.p c.index-message.result.now c.in_ok-told.told c.in_default.not-Taken o))
+    offered_world g.S.Stable.content g.S.Stable.is_clean g.S.Stable.failed g.S.Stable.IsSound _ _ _ _ _ _ c.args.p _ at _ _ c.self.invariant c.self.view_is c.index-message.result.now c.in_ok-told.told c.in_ok-told.ensures.offered c.self.inside.live.entries (after_none _ _ _ c.self.inside.live.entries _ c.self.invariant refl (none_taken _ _ c.args.p c.index-message.result.now c.in_ok-told.told c.in_default.not-Taken o))
 
 pub returns-in_default-clause-happened : goal.returns-in_default-clause-happened
 returns-in_default-clause-happened g c =
@@ -79,8 +63,8 @@ returns-in_default-clause-happened g c =
     let up = subst (λ (w : WorldState). IsUp w c.args.p) (sym c.self.view_is) c.in_ok-is_up.ensures.up in
     let at = lent_at _ c.args.p _ (here g.S.Stable.content (health_of g.S.Stable.is_clean g.S.Stable.failed) g.S.Stable.IsSound _ _ _ _ _ _ c.args.p _ c.self.invariant c.self.view_is c.in_ok-is_up.ensures.there) c.index_mut-member.ensures.value in
     let o = offered_in g.S.Stable.content g.S.Stable.is_clean g.S.Stable.failed g.S.Stable.IsSound _ _ _ _ _ _ c.args.p _ at _ _ c.self.invariant c.self.view_is c.index-message.result.now c.in_ok-told.told c.in_ok-told.ensures.offered c.in_ok-told.told refl in
-    offered_as_seen g.S.Stable.content g.S.Stable.is_clean g.S.Stable.failed g.S.Stable.IsSound _ _ _ _ _ _ c.args.p _ at _ _ c.self.invariant c.self.view_is c.index-message.result.now c.in_ok-told.told c.in_ok-told.ensures.offered c.make_room.new.self.entries (λ v z. GiveHappened v c.args.p c.args.f c.in_ok-told.told z)
-    (given_none _ c.make_room.new.self.entries c.args.p c.args.f c.index-message.result.now c.in_ok-told.told _ c.in_ok-make_room.ensures.entries up frame c.in_default.not-Taken c.in_default.not-Memory o)
+    offered_as_seen g.S.Stable.content g.S.Stable.is_clean g.S.Stable.failed g.S.Stable.IsSound _ _ _ _ _ _ c.args.p _ at _ _ c.self.invariant c.self.view_is c.index-message.result.now c.in_ok-told.told c.in_ok-told.ensures.offered c.self.inside.live.entries (λ v z. GiveHappened v c.args.p c.args.f c.in_ok-told.told z)
+    (given_none _ c.self.inside.live.entries c.args.p c.args.f c.index-message.result.now c.in_ok-told.told _ refl up frame c.in_default.not-Taken c.in_default.not-Memory o)
 
 pub returns-in_err-is_up-clause-happened : goal.returns-in_err-is_up-clause-happened
 returns-in_err-is_up-clause-happened g c =
@@ -93,29 +77,20 @@ returns-in_err-is_up-clause-keeps g c = keeps_by _ _ refl refl refl
 pub returns-then-f-len-clause-keeps : goal.returns-then-f-len-clause-keeps
 returns-then-f-len-clause-keeps g c = keeps_by _ _ refl refl refl
 
-pub returns-in_err-entry-clause-keeps : goal.returns-in_err-entry-clause-keeps
-returns-in_err-entry-clause-keeps g c = keeps_by _ _ refl refl refl
-
-pub invariant_of-self : goal.invariant_of-self
-invariant_of-self g c = after_none _ _ _ _ _ c.self.invariant c.in_err-make_room.ensures.entries refl
-
-pub returns-in_err-make_room-clause-keeps : goal.returns-in_err-make_room-clause-keeps
-returns-in_err-make_room-clause-keeps g c = keeps_seen _ _ _ c.self.view_is refl refl refl
-
 pub returns-in-Taken-clause-keeps : goal.returns-in-Taken-clause-keeps
 returns-in-Taken-clause-keeps g c =
     let at = lent_at _ c.args.p _ (here g.S.Stable.content (health_of g.S.Stable.is_clean g.S.Stable.failed) g.S.Stable.IsSound _ _ _ _ _ _ c.args.p _ c.self.invariant c.self.view_is c.in_ok-is_up.ensures.there) c.index_mut-member.ensures.value in
-    offered_as_seen g.S.Stable.content g.S.Stable.is_clean g.S.Stable.failed g.S.Stable.IsSound _ _ _ _ _ _ c.args.p _ at _ _ c.self.invariant c.self.view_is c.index-message.result.now c.in_ok-told.told c.in_ok-told.ensures.offered c.add.new.self.entries (λ v z. Keeps v z) (keeps_by _ _ refl refl refl)
+    offered_as_seen g.S.Stable.content g.S.Stable.is_clean g.S.Stable.failed g.S.Stable.IsSound _ _ _ _ _ _ c.args.p _ at _ _ c.self.invariant c.self.view_is c.index-message.result.now c.in_ok-told.told c.in_ok-told.ensures.offered c.longer-self-inside.result.entries (λ v z. Keeps v z) (keeps_by _ _ refl refl refl)
 
 pub returns-in-Memory-clause-keeps : goal.returns-in-Memory-clause-keeps
 returns-in-Memory-clause-keeps g c =
     let at = lent_at _ c.args.p _ (here g.S.Stable.content (health_of g.S.Stable.is_clean g.S.Stable.failed) g.S.Stable.IsSound _ _ _ _ _ _ c.args.p _ c.self.invariant c.self.view_is c.in_ok-is_up.ensures.there) c.index_mut-member.ensures.value in
-    offered_as_seen g.S.Stable.content g.S.Stable.is_clean g.S.Stable.failed g.S.Stable.IsSound _ _ _ _ _ _ c.args.p _ at _ _ c.self.invariant c.self.view_is c.index-message.result.now c.in_ok-told.told c.in_ok-told.ensures.offered c.make_room.new.self.entries (λ v z. Keeps v z) (keeps_by _ _ refl refl refl)
+    offered_as_seen g.S.Stable.content g.S.Stable.is_clean g.S.Stable.failed g.S.Stable.IsSound _ _ _ _ _ _ c.args.p _ at _ _ c.self.invariant c.self.view_is c.index-message.result.now c.in_ok-told.told c.in_ok-told.ensures.offered c.self.inside.live.entries (λ v z. Keeps v z) (keeps_by _ _ refl refl refl)
 
 pub returns-in_default-clause-keeps : goal.returns-in_default-clause-keeps
 returns-in_default-clause-keeps g c =
     let at = lent_at _ c.args.p _ (here g.S.Stable.content (health_of g.S.Stable.is_clean g.S.Stable.failed) g.S.Stable.IsSound _ _ _ _ _ _ c.args.p _ c.self.invariant c.self.view_is c.in_ok-is_up.ensures.there) c.index_mut-member.ensures.value in
-    offered_as_seen g.S.Stable.content g.S.Stable.is_clean g.S.Stable.failed g.S.Stable.IsSound _ _ _ _ _ _ c.args.p _ at _ _ c.self.invariant c.self.view_is c.index-message.result.now c.in_ok-told.told c.in_ok-told.ensures.offered c.make_room.new.self.entries (λ v z. Keeps v z) (keeps_by _ _ refl refl refl)
+    offered_as_seen g.S.Stable.content g.S.Stable.is_clean g.S.Stable.failed g.S.Stable.IsSound _ _ _ _ _ _ c.args.p _ at _ _ c.self.invariant c.self.view_is c.index-message.result.now c.in_ok-told.told c.in_ok-told.ensures.offered c.self.inside.live.entries (λ v z. Keeps v z) (keeps_by _ _ refl refl refl)
 
 pub returns-in_err-told-clause-happened : goal.returns-in_err-told-clause-happened
 returns-in_err-told-clause-happened g c =
@@ -129,10 +104,5 @@ returns-in_err-told-clause-keeps g c =
 
 pub returns-in_err-told-clause-faultless : goal.returns-in_err-told-clause-faultless
 returns-in_err-told-clause-faultless g c =
-    let at = lent_at _ c.args.p _ (here g.S.Stable.content (health_of g.S.Stable.is_clean g.S.Stable.failed) g.S.Stable.IsSound _ _ _ _ _ _ c.args.p _ c.self.invariant c.self.view_is c.in_ok-is_up.ensures.there) c.index_mut-member.ensures.value in
-    absurd (stands_up _ (is_up g.S.Stable.content (health_of g.S.Stable.is_clean g.S.Stable.failed) g.S.Stable.IsSound _ _ _ _ _ _ c.args.p _ at _ c.self.view_is c.in_ok-is_up.ensures.up) c.in_err-told.ensures.not_up)
-
-pub invariant_of-self-in_err-told : goal.invariant_of-self-in_err-told
-invariant_of-self-in_err-told g c =
     let at = lent_at _ c.args.p _ (here g.S.Stable.content (health_of g.S.Stable.is_clean g.S.Stable.failed) g.S.Stable.IsSound _ _ _ _ _ _ c.args.p _ c.self.invariant c.self.view_is c.in_ok-is_up.ensures.there) c.index_mut-member.ensures.value in
     absurd (stands_up _ (is_up g.S.Stable.content (health_of g.S.Stable.is_clean g.S.Stable.failed) g.S.Stable.IsSound _ _ _ _ _ _ c.args.p _ at _ c.self.view_is c.in_ok-is_up.ensures.up) c.in_err-told.ensures.not_up)

@@ -24,8 +24,8 @@ invariant_of-result g c =
     let ys = map store_in ms in
     let m = c.in_ok-manager.manager in
     let b = begun_by s.content (health_of s.is_clean s.failed) s.IsSound programs n cores xs ys m size c.requires.few c.requires.stores (all_seated s.content s.is_clean s.IsSound programs n xs ms c.requires.stores a) c.in_ok-manager.ensures.fresh c.in_ok-manager.ensures.sound (λ i x at. all_at (λ store. IsTrue (s.is_clean store) → s.IsSound store) xs i x c.requires.sound at) in
-    let is = begun_is s.content (health_of s.is_clean s.failed) programs (map program_of c.in_ok-copies.copies.items) n c.new.result.entries c.new-2.result.items cores (map place_in ms) (map round_in ms) xs c.of-origins.result.value.items ys m c.new-3.result size
-    c.in_ok-copies.ensures c.new.ensures c.new-2.ensures.items a.places a.rounds (ap (λ v. v.items) c.of-origins.ensures) c.new-3.ensures ∙ seen_begun s.content (health_of s.is_clean s.failed) (map program_of c.in_ok-copies.copies.items) c.new.result.entries c.new-2.result.items ms m (record { origins = map s.content c.of-origins.result.value.items; since = c.new-3.result }) in
+    let is = begun_is s.content (health_of s.is_clean s.failed) programs (map program_of c.in_ok-copies.copies.items) n c.none.result.entries c.new.result.items cores (map place_in ms) (map round_in ms) xs c.of-origins.result.value.items ys m c.new-2.result size
+    c.in_ok-copies.ensures c.none.ensures c.new.ensures.items a.places a.rounds (ap (λ v. v.items) c.of-origins.ensures) c.new-2.ensures ∙ seen_begun s.content (health_of s.is_clean s.failed) (map program_of c.in_ok-copies.copies.items) c.none.result.entries c.new.result.items ms m (record { origins = map s.content c.of-origins.result.value.items; since = c.new-2.result }) in
     subst (IsWorld (sound_in s.IsSound) ms) is (world_seated s.IsSound ms (begun s.content (health_of s.is_clean s.failed) programs cores xs ys m) (world_begun s.content (health_of s.is_clean s.failed) s.IsSound programs cores xs ys m b))
 
 pub returns-clause-started : goal.returns-clause-started
@@ -41,8 +41,8 @@ returns-clause-started g c =
     let ys = map store_in ms in
     let m = c.in_ok-manager.manager in
     let b = begun_by s.content (health_of s.is_clean s.failed) s.IsSound programs n cores xs ys m size c.requires.few c.requires.stores (all_seated s.content s.is_clean s.IsSound programs n xs ms c.requires.stores a) c.in_ok-manager.ensures.fresh c.in_ok-manager.ensures.sound (λ i x at. all_at (λ store. IsTrue (s.is_clean store) → s.IsSound store) xs i x c.requires.sound at) in
-    let is = begun_is s.content (health_of s.is_clean s.failed) programs (map program_of c.in_ok-copies.copies.items) n c.new.result.entries c.new-2.result.items cores (map place_in ms) (map round_in ms) xs c.of-origins.result.value.items ys m c.new-3.result size
-    c.in_ok-copies.ensures c.new.ensures c.new-2.ensures.items a.places a.rounds (ap (λ v. v.items) c.of-origins.ensures) c.new-3.ensures ∙ seen_begun s.content (health_of s.is_clean s.failed) (map program_of c.in_ok-copies.copies.items) c.new.result.entries c.new-2.result.items ms m (record { origins = map s.content c.of-origins.result.value.items; since = c.new-3.result }) in
+    let is = begun_is s.content (health_of s.is_clean s.failed) programs (map program_of c.in_ok-copies.copies.items) n c.none.result.entries c.new.result.items cores (map place_in ms) (map round_in ms) xs c.of-origins.result.value.items ys m c.new-2.result size
+    c.in_ok-copies.ensures c.none.ensures c.new.ensures.items a.places a.rounds (ap (λ v. v.items) c.of-origins.ensures) c.new-2.ensures ∙ seen_begun s.content (health_of s.is_clean s.failed) (map program_of c.in_ok-copies.copies.items) c.none.result.entries c.new.result.items ms m (record { origins = map s.content c.of-origins.result.value.items; since = c.new-2.result }) in
     subst (IsStarted programs) is (is_started s.content (health_of s.is_clean s.failed) s.IsSound programs cores xs ys m b)
 
 pub returns-clause-stored : goal.returns-clause-stored
@@ -58,8 +58,8 @@ returns-clause-stored g c =
     let ys = map store_in ms in
     let m = c.in_ok-manager.manager in
     let b = begun_by s.content (health_of s.is_clean s.failed) s.IsSound programs n cores xs ys m size c.requires.few c.requires.stores (all_seated s.content s.is_clean s.IsSound programs n xs ms c.requires.stores a) c.in_ok-manager.ensures.fresh c.in_ok-manager.ensures.sound (λ i x at. all_at (λ store. IsTrue (s.is_clean store) → s.IsSound store) xs i x c.requires.sound at) in
-    let is = begun_is s.content (health_of s.is_clean s.failed) programs (map program_of c.in_ok-copies.copies.items) n c.new.result.entries c.new-2.result.items cores (map place_in ms) (map round_in ms) xs c.of-origins.result.value.items ys m c.new-3.result size
-    c.in_ok-copies.ensures c.new.ensures c.new-2.ensures.items a.places a.rounds (ap (λ v. v.items) c.of-origins.ensures) c.new-3.ensures ∙ seen_begun s.content (health_of s.is_clean s.failed) (map program_of c.in_ok-copies.copies.items) c.new.result.entries c.new-2.result.items ms m (record { origins = map s.content c.of-origins.result.value.items; since = c.new-3.result }) in
+    let is = begun_is s.content (health_of s.is_clean s.failed) programs (map program_of c.in_ok-copies.copies.items) n c.none.result.entries c.new.result.items cores (map place_in ms) (map round_in ms) xs c.of-origins.result.value.items ys m c.new-2.result size
+    c.in_ok-copies.ensures c.none.ensures c.new.ensures.items a.places a.rounds (ap (λ v. v.items) c.of-origins.ensures) c.new-2.ensures ∙ seen_begun s.content (health_of s.is_clean s.failed) (map program_of c.in_ok-copies.copies.items) c.none.result.entries c.new.result.items ms m (record { origins = map s.content c.of-origins.result.value.items; since = c.new-2.result }) in
     subst (λ (w : WorldState). all_clean w.health ≡ true → HaveFirst w) is (have_first s.content (health_of s.is_clean s.failed) s.IsSound programs cores xs ys m b)
 
 pub returns-clause-clean : goal.returns-clause-clean
@@ -75,8 +75,8 @@ returns-clause-clean g c =
     let ys = map store_in ms in
     let m = c.in_ok-manager.manager in
     let b = begun_by s.content (health_of s.is_clean s.failed) s.IsSound programs n cores xs ys m size c.requires.few c.requires.stores (all_seated s.content s.is_clean s.IsSound programs n xs ms c.requires.stores a) c.in_ok-manager.ensures.fresh c.in_ok-manager.ensures.sound (λ i x at. all_at (λ store. IsTrue (s.is_clean store) → s.IsSound store) xs i x c.requires.sound at) in
-    let is = begun_is s.content (health_of s.is_clean s.failed) programs (map program_of c.in_ok-copies.copies.items) n c.new.result.entries c.new-2.result.items cores (map place_in ms) (map round_in ms) xs c.of-origins.result.value.items ys m c.new-3.result size
-    c.in_ok-copies.ensures c.new.ensures c.new-2.ensures.items a.places a.rounds (ap (λ v. v.items) c.of-origins.ensures) c.new-3.ensures ∙ seen_begun s.content (health_of s.is_clean s.failed) (map program_of c.in_ok-copies.copies.items) c.new.result.entries c.new-2.result.items ms m (record { origins = map s.content c.of-origins.result.value.items; since = c.new-3.result }) in
+    let is = begun_is s.content (health_of s.is_clean s.failed) programs (map program_of c.in_ok-copies.copies.items) n c.none.result.entries c.new.result.items cores (map place_in ms) (map round_in ms) xs c.of-origins.result.value.items ys m c.new-2.result size
+    c.in_ok-copies.ensures c.none.ensures c.new.ensures.items a.places a.rounds (ap (λ v. v.items) c.of-origins.ensures) c.new-2.ensures ∙ seen_begun s.content (health_of s.is_clean s.failed) (map program_of c.in_ok-copies.copies.items) c.none.result.entries c.new.result.items ms m (record { origins = map s.content c.of-origins.result.value.items; since = c.new-2.result }) in
     λ all. clean_begun s.content (health_of s.is_clean s.failed) s.IsSound programs cores xs ys m b (ap (λ (w : WorldState). all_clean w.health) is ∙ all)
 
 pub returns-clause-always : goal.returns-clause-always
@@ -95,8 +95,8 @@ returns-clause-holds g c =
     let ys = map store_in ms in
     let m = c.in_ok-manager.manager in
     let b = begun_by s.content (health_of s.is_clean s.failed) s.IsSound programs n cores xs ys m size c.requires.few c.requires.stores (all_seated s.content s.is_clean s.IsSound programs n xs ms c.requires.stores a) c.in_ok-manager.ensures.fresh c.in_ok-manager.ensures.sound (λ i x at. all_at (λ store. IsTrue (s.is_clean store) → s.IsSound store) xs i x c.requires.sound at) in
-    let is = begun_is s.content (health_of s.is_clean s.failed) programs (map program_of c.in_ok-copies.copies.items) n c.new.result.entries c.new-2.result.items cores (map place_in ms) (map round_in ms) xs c.of-origins.result.value.items ys m c.new-3.result size
-    c.in_ok-copies.ensures c.new.ensures c.new-2.ensures.items a.places a.rounds (ap (λ v. v.items) c.of-origins.ensures) c.new-3.ensures ∙ seen_begun s.content (health_of s.is_clean s.failed) (map program_of c.in_ok-copies.copies.items) c.new.result.entries c.new-2.result.items ms m (record { origins = map s.content c.of-origins.result.value.items; since = c.new-3.result }) in
+    let is = begun_is s.content (health_of s.is_clean s.failed) programs (map program_of c.in_ok-copies.copies.items) n c.none.result.entries c.new.result.items cores (map place_in ms) (map round_in ms) xs c.of-origins.result.value.items ys m c.new-2.result size
+    c.in_ok-copies.ensures c.none.ensures c.new.ensures.items a.places a.rounds (ap (λ v. v.items) c.of-origins.ensures) c.new-2.ensures ∙ seen_begun s.content (health_of s.is_clean s.failed) (map program_of c.in_ok-copies.copies.items) c.none.result.entries c.new.result.items ms m (record { origins = map s.content c.of-origins.result.value.items; since = c.new-2.result }) in
     subst (λ (w : WorldState). IsKnown w → Holds w) is (world_holds s.IsSound ys (begun s.content (health_of s.is_clean s.failed) programs cores xs ys m) (world_begun s.content (health_of s.is_clean s.failed) s.IsSound programs cores xs ys m b))
 
 pub returns-clause-loadable : goal.returns-clause-loadable

@@ -1,0 +1,16 @@
+use Rattle.std.proofs.Common.{arith, ap, length, ◌∙◌, ◌+◌, ◌-◌}
+use Rattle.std.proofs.lemmas.List.Edits.{length-swap}
+use Rattle.om_stable.proofs.RunLemmas.{moved_none, moved_more, moved_all}
+use Rattle.om_stable.proofs.record_list.move_to_front.Goals as goal
+
+pub loop-k-init : goal.loop-k-init
+loop-k-init c = moved_none c.args.records.now.items c.args.from
+
+pub loop-k-preserved : goal.loop-k-preserved
+loop-k-preserved c = moved_more c.args.records.now.items c.loop-k.records.items c.swap.new.self.items c.args.from c.loop-k.k c.loop-k.invariant c.swap.ensures.by_index
+    (ap length c.swap.ensures.items ∙ length-swap c.loop-k.records.items c.loop-k.k (c.args.from + c.loop-k.k))
+
+pub returns : goal.returns
+returns c =
+    c.truncate.ensures.items
+    ∙ moved_all c.args.records.now.items c.loop-k.records.items c.args.from (c.len.result - c.args.from) c.loop-k.k (omega (arith, c.len.ensures)) c.requires.within (omega arith) c.loop-k.invariant
