@@ -4,7 +4,7 @@ use Rattle.std.specs.Prelude.{slice_get}
 use Rattle.std.proofs.lemmas.List.{take_more}
 use Rattle.om_debug.specs.Stops.{DebugState}
 use Rattle.om_inferiors.specs.declared.inferior.Inferior.{Inferior}
-use Rattle.om_debug.specs.declared.debugger.Told.{Told}
+use Rattle.om_debug.specs.declared.debugger.Reply.{Reply}
 use Rattle.om_debug.specs.declared.stop.Stop.{Stop}
 use Rattle.om_inferiors.specs.declared.inferiors.Inferiors.{Inferiors}
 use Rattle.om_inferiors.specs.Moving.{AreBack, AreOn, IsLastOf, IsNoStepBack, StandsAt, with_debugger}
@@ -46,7 +46,7 @@ put_back len news items same long =
     ap (λ n. take len (news ++ drop n items)) same ∙ ap (λ rest. take len (news ++ rest)) (drop_all items) ∙ ap (take len) (append-nil news) ∙ ap (λ n. take n news) (long ∙ sym same) ∙ take_all news
 
 -- ---- what is told
-pub told_of : (old mid new : Inferiors) (place : ℕ) (stop : Stop) (told : Told) → mid.going ≡ old.going → IsTold mid place stop told new → IsTold old place stop told new
+pub told_of : (old mid new : Inferiors) (place : ℕ) (stop : Stop) (told : Reply) → mid.going ≡ old.going → IsTold mid place stop told new → IsTold old place stop told new
 told_of old mid new place stop told same t = record {
   member = t.member;
   is_there = t.is_there;
@@ -57,7 +57,7 @@ told_of old mid new place stop told same t = record {
   going = t.going ∙ same;
 }
 
-pub group_on : (old mid new : Inferiors) (told : Told) (place : ℕ) (stop : Stop) (were news : List Inferior) → were ≡ old.members.items → new.members.items ≡ news → mid.going ≡ old.going
+pub group_on : (old mid new : Inferiors) (told : Reply) (place : ℕ) (stop : Stop) (were news : List Inferior) → were ≡ old.members.items → new.members.items ≡ news → mid.going ≡ old.going
     → IsTold mid place stop told new → AreOn were news → StandsAt news place stop → IsGroupOn old told new
 group_on old mid new told place stop were news begun same going t on stands = record {
   place = place;
@@ -67,7 +67,7 @@ group_on old mid new told place stop were news begun same going t on stands = re
   stands = subst (λ xs. StandsAt xs place stop) (sym same) stands;
 }
 
-pub group_back : (old mid new : Inferiors) (told : Told) (place : ℕ) (stop : Stop) (were news : List Inferior) → were ≡ old.members.items → new.members.items ≡ news → mid.going ≡ old.going
+pub group_back : (old mid new : Inferiors) (told : Reply) (place : ℕ) (stop : Stop) (were news : List Inferior) → were ≡ old.members.items → new.members.items ≡ news → mid.going ≡ old.going
     → IsTold mid place stop told new → AreBack were news → IsLastOf were news place stop ⊎ IsNoStepBack were news place stop → IsGroupBack old told new
 group_back old mid new told place stop were news begun same going t back last = record {
   place = place;

@@ -3,7 +3,7 @@ use Rattle.std.specs.Prelude.{◌≡◌, ℕ, Bool, List, [], ◌∷◌, ◌++�
 use Rattle.std.specs.List.{AllZip, flat_map}
 use Rattle.om_requests.specs.declared.request.Command.{Command}
 use Rattle.om_requests.specs.declared.request.Command.TheVariants as commands
-use Rattle.om_debug.specs.declared.debugger.Told.{Told}
+use Rattle.om_debug.specs.declared.debugger.Reply.{Reply}
 use Rattle.om_debug.specs.Monitor.{IsAtEvent, IsSaid, events_text, help_text, process_line, time_line}
 use Rattle.om_inferiors.specs.declared.inferior.Inferior.{Inferior}
 use Rattle.om_inferiors.specs.declared.inferiors.Inferiors.{Inferiors}
@@ -62,7 +62,7 @@ pub record IsGroupSentTo (number : ℕ) (old new : Inferiors) : Type 0 where
   pub focus : new.focus ≡ old.focus
 
 -- what a command is told, and where it leads: all but one lead nowhere
-abbrev pub IsGroupCommanded : Command → Inferiors → Told → Inferiors → Type 0
+abbrev pub IsGroupCommanded : Command → Inferiors → Reply → Inferiors → Type 0
 IsGroupCommanded commands.Where old told new = (new ≡ old) × IsSaid (group_where_text old.members.items) told
 IsGroupCommanded commands.Events old told new = (new ≡ old) × IsSaid (group_events_text old.members.items) told
 IsGroupCommanded (commands.Goto number) old told new = IsGroupSentTo number old new × IsSaid (group_where_text new.members.items) told

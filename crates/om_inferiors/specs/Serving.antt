@@ -8,7 +8,7 @@ use Rattle.om_packets.specs.declared.decoder.Event.TheVariants.{Packet, Garbled,
 use Rattle.om_requests.specs.Requests.{request_of}
 use Rattle.om_timeline.specs.declared.fault.PlayFault.{PlayFault}
 use Rattle.om_timeline.specs.declared.fault.PlayFault.TheVariants.{Memory, TooLong}
-use Rattle.om_debug.specs.declared.debugger.Told.{Told}
+use Rattle.om_debug.specs.declared.debugger.Reply.{Reply}
 use Rattle.om_requests.specs.Groups.{group_request_of}
 use Rattle.om_debug.specs.declared.stop.Stop.TheVariants.{Paused}
 use Rattle.om_debug.specs.Stops.{DebugState, IsMoved, stop_text, with_timeline}
@@ -30,27 +30,27 @@ abbrev pub session : Shown → SessionState
 session shown = record { shown = shown; decoding = start; acks = true }
 
 -- E0c is told where memory ran out, and E01 where the record is not played on
-abbrev pub outcome_text : Result Told PlayFault → List ℕ
+abbrev pub outcome_text : Result Reply PlayFault → List ℕ
 outcome_text (Ok told) = text_of told
 outcome_text (Err Memory) = codes "E0c"
 outcome_text (Err TooLong) = codes "E01"
 
-abbrev pub is_over : Result Told PlayFault → Bool
+abbrev pub is_over : Result Reply PlayFault → Bool
 is_over (Ok told) = is_last told
 is_over (Err fault) = false
 
 -- what became of a packet about one process, and what it leaves
-pub record IsOutcome (packet : List ℕ) (old : DebugState) (outcome : Result Told PlayFault) (new : DebugState) : Type 0 where
+pub record IsOutcome (packet : List ℕ) (old : DebugState) (outcome : Result Reply PlayFault) (new : DebugState) : Type 0 where
   pub answered : IfOk outcome (λ told. IsAnswered (request_of packet) old told new)
   pub moved : IsMoved old.timeline new.timeline
   pub refused : OnErr outcome (new ≡ with_timeline old new.timeline)
 
 -- of a packet about all processes
-pub record IsGroupOutcome (packet : List ℕ) (old : Inferiors) (outcome : Result Told PlayFault) (new : Inferiors) : Type 0 where
+pub record IsGroupOutcome (packet : List ℕ) (old : Inferiors) (outcome : Result Reply PlayFault) (new : Inferiors) : Type 0 where
   pub answered : IfOk outcome (λ told. IsGroupAnswered (group_request_of packet) old told new)
 
 -- one process is shown all the time, or all are
-abbrev pub IsShownOutcome : List ℕ → Shown → Result Told PlayFault → Shown → Type 0
+abbrev pub IsShownOutcome : List ℕ → Shown → Result Reply PlayFault → Shown → Type 0
 IsShownOutcome packet (One old) outcome (One new) = IsOutcome packet old outcome new
 IsShownOutcome packet (All old) outcome (All new) = IsGroupOutcome packet old outcome new
 IsShownOutcome packet old outcome new = ⊥
@@ -66,7 +66,7 @@ if_acked acks text = if acks then text else []
 
 -- a packet is answered, and from the one on that asks for it no more is acknowledged
 pub record IsPacketTaken (old : SessionState) (d : Decoding) (written : List ℕ) (over : Bool) (new : SessionState) : Type 0 where
-  pub outcome : Result Told PlayFault
+  pub outcome : Result Reply PlayFault
   pub is_outcome : IsShownOutcome d.body old.shown outcome new.shown
   pub text : written ≡ if_acked old.acks (codes "+") ++ packet_text (outcome_text outcome)
   pub last : over ≡ is_over outcome

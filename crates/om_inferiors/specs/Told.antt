@@ -10,7 +10,7 @@ use Rattle.om_requests.specs.declared.group.Whom.{Whom}
 use Rattle.om_requests.specs.declared.group.Whom.TheVariants.{Any, Whole, One}
 use Rattle.om_requests.specs.declared.request.Request.TheVariants as requests
 use Rattle.om_timeline.specs.Timeline.{machine_here}
-use Rattle.om_debug.specs.declared.debugger.Told.{Told}
+use Rattle.om_debug.specs.declared.debugger.Reply.{Reply}
 use Rattle.om_debug.specs.declared.stop.Stop.{Stop}
 use Rattle.om_debug.specs.declared.stop.Stop.TheVariants as stops
 use Rattle.om_debug.specs.Standing.{standing_text}
@@ -142,7 +142,7 @@ set_members members None change = members
 set_members members (Some place) change = set_place members place change (slice_get members place)
 
 -- the one that is meant is set anew
-pub record IsSet (old : Inferiors) (change : DebugState → DebugState) (told : Told) (new : Inferiors) : Type 0 where
+pub record IsSet (old : Inferiors) (change : DebugState → DebugState) (told : Reply) (new : Inferiors) : Type 0 where
   pub text : text_of told ≡ ok_if (is_some (place_of old.members.items old.selected))
   pub members : new.members.items ≡ set_members old.members.items (place_of old.members.items old.selected) change
   pub selected : new.selected ≡ old.selected
@@ -154,7 +154,7 @@ left_members members None = members
 left_members members (Some place) = remove members place
 
 -- a process is shown no more, and it is over when none is left
-pub record IsLeft (old : Inferiors) (number : ℕ) (told : Told) (new : Inferiors) : Type 0 where
+pub record IsLeft (old : Inferiors) (number : ℕ) (told : Reply) (new : Inferiors) : Type 0 where
   pub text : text_of told ≡ ok_if (is_some (place_of old.members.items number))
   pub members : new.members.items ≡ left_members old.members.items (place_of old.members.items number)
   pub last : is_last told ≡ (is_some (place_of old.members.items number) && (length new.members.items == 0))
@@ -164,7 +164,7 @@ pub record IsLeft (old : Inferiors) (number : ℕ) (told : Told) (new : Inferior
 
 -- ---- answers
 -- a stop is told of the process at a place, and that one is meant from now on
-pub record IsTold (old : Inferiors) (place : ℕ) (stop : Stop) (told : Told) (new : Inferiors) : Type 0 where
+pub record IsTold (old : Inferiors) (place : ℕ) (stop : Stop) (told : Reply) (new : Inferiors) : Type 0 where
   pub member : Inferior
   pub is_there : slice_get new.members.items place ≡ Some member
   pub text : text_of told ≡ group_stop_text member.number stop
@@ -174,7 +174,7 @@ pub record IsTold (old : Inferiors) (place : ℕ) (stop : Stop) (told : Told) (n
   pub going : new.going ≡ old.going
 
 -- all have gone on: nothing stops any of them at a position that it passed, and one stands where it does for this, which is told
-pub record IsGroupOn (old : Inferiors) (told : Told) (new : Inferiors) : Type 0 where
+pub record IsGroupOn (old : Inferiors) (told : Reply) (new : Inferiors) : Type 0 where
   pub place : ℕ
   pub stop : Stop
   pub is_told : IsTold old place stop told new
@@ -186,20 +186,20 @@ abbrev pub alone_text : List ℕ
 alone_text = codes "E.time goes on for all processes: first say set schedule-multiple on"
 
 -- one who is not shown, or who would go on alone, is refused, and nothing has changed
-pub record IsRefused (old : Inferiors) (told : Told) (new : Inferiors) : Type 0 where
+pub record IsRefused (old : Inferiors) (told : Reply) (new : Inferiors) : Type 0 where
   pub error : (text_of told ≡ error_text) ⊎ (text_of told ≡ alone_text)
   pub goes_on : is_last told ≡ false
   pub same : new ≡ old
 
 -- all have gone back, and the last of their stops is told; or nothing came to the one that was to go back by a step
-pub record IsGroupBack (old : Inferiors) (told : Told) (new : Inferiors) : Type 0 where
+pub record IsGroupBack (old : Inferiors) (told : Reply) (new : Inferiors) : Type 0 where
   pub place : ℕ
   pub stop : Stop
   pub is_told : IsTold old place stop told new
   pub back : AreBack old.members.items new.members.items
   pub last : IsLastOf old.members.items new.members.items place stop ⊎ IsNoStepBack old.members.items new.members.items place stop
 
-abbrev pub IsGroupAnswered : GroupRequest → Inferiors → Told → Inferiors → Type 0
+abbrev pub IsGroupAnswered : GroupRequest → Inferiors → Reply → Inferiors → Type 0
 IsGroupAnswered (groups.Resume how whom) old told new = IsGroupOn old told new ⊎ IsRefused old told new
 IsGroupAnswered (groups.Select whom) old told new =
     (text_of told ≡ ok_if (is_there old.members.items whom)) × (new ≡ (if is_there old.members.items whom then record old { selected = named_or old.selected whom } else old))
@@ -220,7 +220,7 @@ IsGroupAnswered (groups.Other requests.Kill) old told new = (text_of told ≡ co
 IsGroupAnswered request old told new = (text_of told ≡ asked_group old request) × (new ≡ old)
 
 -- it is over behind the answer, or goes on: whether it is when a process is left hangs on how many are
-abbrev pub IsGroupEnd : GroupRequest → Told → Type 0
+abbrev pub IsGroupEnd : GroupRequest → Reply → Type 0
 IsGroupEnd (groups.Leave number) told = Unit {0}
 IsGroupEnd (groups.Other request) told = is_last told ≡ is_leaving request
 IsGroupEnd request told = is_last told ≡ false

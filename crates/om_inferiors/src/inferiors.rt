@@ -9,7 +9,7 @@ ghost use Rattle.om_inferiors.specs.Told.{IsGroupAnswered, IsGroupBack, IsGroupE
 use crate::inferior::Inferior;
 use crate::moving::{Stopped, backward, forward};
 use crate::stop::group_stop_text;
-use om_debug::{Stop, Told, Wish};
+use om_debug::{Reply, Stop, Wish};
 use om_requests::{
     ERROR, GroupRequest, Request, Resume, Watch, Whom, group_request_of, memory_text, piece_text,
     registers_text, target_text,
@@ -44,11 +44,11 @@ fn bytes(alloc: Global, text: &str) -> Result<Vec<u8>, AllocError>
     Vec::from_slice(alloc, text.as_bytes())
 }
 
-fn text(alloc: Global, text: &str) -> Result<Told, AllocError>
+fn text(alloc: Global, text: &str) -> Result<Reply, AllocError>
     ensures text { IfOk result (λ told. text_of told ≡ text.now) }
     ensures last { IfOk result (λ told. is_last told ≡ false) }
 {
-    Ok(Told::Text(bytes(alloc, text)?))
+    Ok(Reply::Text(bytes(alloc, text)?))
 }
 
 // Returns where the process of a number stands among those that are shown.
@@ -107,7 +107,7 @@ impl Inferiors {
         alloc: Global,
         packet: &[u8],
         reader: &mut R,
-    ) -> Result<Told, PlayFault>
+    ) -> Result<Reply, PlayFault>
         ensures answered { IfOk result (λ told. IsGroupAnswered (group_request_of packet.now) self.old told self.new) }
         ensures last { IfOk result (λ told. IsGroupEnd (group_request_of packet.now) told) }
         ensures unread { R.remaining reader.new ≡ R.remaining reader.old }
@@ -121,7 +121,7 @@ impl Inferiors {
         alloc: Global,
         request: GroupRequest,
         reader: &mut R,
-    ) -> Result<Told, PlayFault>
+    ) -> Result<Reply, PlayFault>
         ensures answered { IfOk result (λ told. IsGroupAnswered request self.old told self.new) }
         ensures last { IfOk result (λ told. IsGroupEnd request told) }
         ensures unread { R.remaining reader.new ≡ R.remaining reader.old }
@@ -133,7 +133,7 @@ impl Inferiors {
             GroupRequest::IsAlive(whom) => Ok(self.name(alloc, whom)?),
             GroupRequest::Leave(number) => Ok(self.leave(alloc, number)?),
             GroupRequest::File(number, offset, length) => {
-                Ok(Told::Text(self.file(alloc, number, offset, length)?))
+                Ok(Reply::Text(self.file(alloc, number, offset, length)?))
             }
             GroupRequest::Other(request) => self.answer_other(alloc, request, reader),
         }
@@ -145,7 +145,7 @@ impl Inferiors {
         alloc: Global,
         request: Request,
         reader: &mut R,
-    ) -> Result<Told, PlayFault>
+    ) -> Result<Reply, PlayFault>
         ensures answered { IfOk result (λ told. IsGroupAnswered (GroupRequest.Other request) self.old told self.new) }
         ensures last { IfOk result (λ told. is_last told ≡ is_leaving request) }
         ensures unread { R.remaining reader.new ≡ R.remaining reader.old }
@@ -158,18 +158,18 @@ impl Inferiors {
             Request::SetWatch(watch) => Ok(self.set_watch(alloc, watch)?),
             Request::ClearWatch(watch) => Ok(self.clear_watch(alloc, watch)?),
             Request::Monitor(command) => self.commanded(alloc, command),
-            Request::Detach => Ok(Told::Last(bytes(alloc, "OK")?)),
-            Request::Kill => Ok(Told::Last(bytes(alloc, "OK")?)),
-            asked => Ok(Told::Text(self.asked(alloc, asked)?)),
+            Request::Detach => Ok(Reply::Last(bytes(alloc, "OK")?)),
+            Request::Kill => Ok(Reply::Last(bytes(alloc, "OK")?)),
+            asked => Ok(Reply::Text(self.asked(alloc, asked)?)),
         }
     }
 
     /// Tells that the processes stand where they stand, as one who asked for a stop is told. Refused only where memory ran out.
-    pub fn interrupted(&self, alloc: Global) -> Result<Told, AllocError>
+    pub fn interrupted(&self, alloc: Global) -> Result<Reply, AllocError>
         ensures paused { IfOk result (λ told. text_of told ≡ group_stop_text self.now.focus Paused) }
         ensures last { IfOk result (λ told. is_last told ≡ false) }
     {
-        Ok(Told::Text(group_stop_text(alloc, self.focus, Stop::Paused)?.into_bytes()))
+        Ok(Reply::Text(group_stop_text(alloc, self.focus, Stop::Paused)?.into_bytes()))
     }
 
     // The number of the one that is meant.
@@ -197,7 +197,7 @@ impl Inferiors {
 // Who goes on, and back, and what is set.
 impl Inferiors {
     // The text of a stop, and the one that is told is meant from now on.
-    fn stopped(&mut self, alloc: Global, stopped: Stopped) -> Result<Told, AllocError>
+    fn stopped(&mut self, alloc: Global, stopped: Stopped) -> Result<Reply, AllocError>
         requires { stopped.place < length self.old.members.items }
         ensures told { IfOk result (λ told. IsTold self.old stopped.place stopped.stop told self.new) }
         ensures members { self.new.members.items ≡ self.old.members.items }
@@ -206,7 +206,7 @@ impl Inferiors {
         let text = group_stop_text(alloc, number, stopped.stop)?;
         self.focus = number;
         self.selected = number;
-        Ok(Told::Text(text.into_bytes()))
+        Ok(Reply::Text(text.into_bytes()))
     }
 
     // Goes on to the first stop: where one is named, it goes on so, and all others until something stops them.
@@ -216,7 +216,7 @@ impl Inferiors {
         how: Resume,
         whom: Whom,
         reader: &mut R,
-    ) -> Result<Told, PlayFault>
+    ) -> Result<Reply, PlayFault>
         ensures answered { IfOk result (λ told. IsGroupOn self.old told self.new ⊎ IsRefused self.old told self.new) }
         ensures last { IfOk result (λ told. is_last told ≡ false) }
         ensures unread { R.remaining reader.new ≡ R.remaining reader.old }
@@ -239,7 +239,7 @@ impl Inferiors {
         alloc: Global,
         steps: bool,
         reader: &mut R,
-    ) -> Result<Told, PlayFault>
+    ) -> Result<Reply, PlayFault>
         ensures answered { IfOk result (λ told. IsGroupBack self.old told self.new ⊎ IsRefused self.old told self.new) }
         ensures last { IfOk result (λ told. is_last told ≡ false) }
         ensures unread { R.remaining reader.new ≡ R.remaining reader.old }
@@ -252,7 +252,7 @@ impl Inferiors {
         Ok(self.stopped(alloc, stopped)?)
     }
 
-    fn select(&mut self, alloc: Global, whom: Whom) -> Result<Told, AllocError>
+    fn select(&mut self, alloc: Global, whom: Whom) -> Result<Reply, AllocError>
         ensures answered { IfOk result (λ told. IsGroupAnswered (GroupRequest.Select whom) self.old told self.new) }
         ensures last { IfOk result (λ told. is_last told ≡ false) }
     {
@@ -268,7 +268,7 @@ impl Inferiors {
         Ok(done)
     }
 
-    fn select_going(&mut self, alloc: Global, whom: Whom) -> Result<Told, AllocError>
+    fn select_going(&mut self, alloc: Global, whom: Whom) -> Result<Reply, AllocError>
         ensures answered { IfOk result (λ told. IsGroupAnswered (GroupRequest.SelectGoing whom) self.old told self.new) }
         ensures last { IfOk result (λ told. is_last told ≡ false) }
     {
@@ -285,7 +285,7 @@ impl Inferiors {
     }
 
     // Tells whether a thread is there, and takes it for the one that is meant by a step back.
-    fn name(&mut self, alloc: Global, whom: Whom) -> Result<Told, AllocError>
+    fn name(&mut self, alloc: Global, whom: Whom) -> Result<Reply, AllocError>
         ensures answered { IfOk result (λ told. IsGroupAnswered (GroupRequest.IsAlive whom) self.old told self.new) }
         ensures last { IfOk result (λ told. is_last told ≡ false) }
     {
@@ -302,7 +302,7 @@ impl Inferiors {
     }
 
     // Shows a process no more. It is over when none is left.
-    fn leave(&mut self, alloc: Global, number: u32) -> Result<Told, AllocError>
+    fn leave(&mut self, alloc: Global, number: u32) -> Result<Reply, AllocError>
         ensures { IfOk result (λ told. IsLeft self.old number told self.new) }
     {
         let Some(place) = place_of(&self.members, number) else {
@@ -311,13 +311,13 @@ impl Inferiors {
         let done = bytes(alloc, "OK")?;
         self.members.remove(place);
         if self.members.is_empty() {
-            Ok(Told::Last(done))
+            Ok(Reply::Last(done))
         } else {
-            Ok(Told::Text(done))
+            Ok(Reply::Text(done))
         }
     }
 
-    fn set_break(&mut self, alloc: Global, address: u32) -> Result<Told, AllocError>
+    fn set_break(&mut self, alloc: Global, address: u32) -> Result<Reply, AllocError>
         ensures set { IfOk result (λ told. IsSet self.old (λ d. with_breaks d (set_break address d.breaks)) told self.new) }
         ensures last { IfOk result (λ told. is_last told ≡ false) }
     {
@@ -330,7 +330,7 @@ impl Inferiors {
         Ok(done)
     }
 
-    fn clear_break(&mut self, alloc: Global, address: u32) -> Result<Told, AllocError>
+    fn clear_break(&mut self, alloc: Global, address: u32) -> Result<Reply, AllocError>
         ensures set { IfOk result (λ told. IsSet self.old (λ d. with_breaks d (clear_break address d.breaks)) told self.new) }
         ensures last { IfOk result (λ told. is_last told ≡ false) }
     {
@@ -343,7 +343,7 @@ impl Inferiors {
         Ok(done)
     }
 
-    fn set_watch(&mut self, alloc: Global, watch: Watch) -> Result<Told, AllocError>
+    fn set_watch(&mut self, alloc: Global, watch: Watch) -> Result<Reply, AllocError>
         ensures set { IfOk result (λ told. IsSet self.old (λ d. with_watches d (set_watch watch d.watches)) told self.new) }
         ensures last { IfOk result (λ told. is_last told ≡ false) }
     {
@@ -356,7 +356,7 @@ impl Inferiors {
         Ok(done)
     }
 
-    fn clear_watch(&mut self, alloc: Global, watch: Watch) -> Result<Told, AllocError>
+    fn clear_watch(&mut self, alloc: Global, watch: Watch) -> Result<Reply, AllocError>
         ensures set { IfOk result (λ told. IsSet self.old (λ d. with_watches d (clear_watch watch d.watches)) told self.new) }
         ensures last { IfOk result (λ told. is_last told ≡ false) }
     {

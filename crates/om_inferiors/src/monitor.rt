@@ -9,7 +9,7 @@ ghost use Rattle.om_inferiors.specs.steps.Sending.{IsSentAt};
 
 use crate::inferior::Inferior;
 use crate::inferiors::Inferiors;
-use om_debug::{HELP, Told};
+use om_debug::{HELP, Reply};
 use om_requests::Command;
 use om_timeline::PlayFault;
 use std::alloc::{AllocError, Global};
@@ -34,11 +34,11 @@ fn all_to_event(all: &mut [Inferior], event: usize) -> Result<(), PlayFault>
 }
 
 // A text for the user, whose bytes are told in hexadecimal.
-fn said(alloc: Global, text: &str) -> Result<Told, AllocError>
+fn said(alloc: Global, text: &str) -> Result<Reply, AllocError>
     ensures said { IfOk result (λ told. IsSaid text.now told) }
     ensures last { IfOk result (λ told. is_last told ≡ false) }
 {
-    Ok(Told::Text(hex::encode(alloc, text.as_bytes())?.into_bytes()))
+    Ok(Reply::Text(hex::encode(alloc, text.as_bytes())?.into_bytes()))
 }
 
 // Returns whether some instructions of the next event are done.
@@ -84,7 +84,7 @@ fn push_time(text: &mut String, members: &[Inferior], place: usize) -> Result<()
 
 impl Inferiors {
     // Does what a command of the user says, and tells it.
-    pub(crate) fn commanded(&mut self, alloc: Global, command: Command) -> Result<Told, PlayFault>
+    pub(crate) fn commanded(&mut self, alloc: Global, command: Command) -> Result<Reply, PlayFault>
         ensures commanded { IfOk result (λ told. IsGroupCommanded command self.old told self.new) }
         ensures last { IfOk result (λ told. is_last told ≡ false) }
     {
@@ -109,7 +109,7 @@ impl Inferiors {
     }
 
     // Where time and the processes stand, as it is told.
-    fn said_where(&self, alloc: Global) -> Result<Told, PlayFault>
+    fn said_where(&self, alloc: Global) -> Result<Reply, PlayFault>
         ensures said { IfOk result (λ told. IsSaid (group_where_text self.now.members.items) told) }
         ensures last { IfOk result (λ told. is_last told ≡ false) }
     {

@@ -8,7 +8,7 @@ ghost use Rattle.om_inferiors.specs.Serving.{IsPacketTaken, SessionState, Takes,
 ghost use Rattle.om_inferiors.specs.steps.Serving.{AreRead, AreTaken, session_of};
 
 use crate::shown::Shown;
-use om_debug::{Told, Wish};
+use om_debug::{Reply, Wish};
 use om_packets::{Decoder, Event, encode};
 use om_timeline::PlayFault;
 use std::alloc::{AllocError, Global};
@@ -118,23 +118,23 @@ fn flush<W: Write>(writer: &mut W) -> Result<(), ServeError>
 }
 
 // The answer to a packet.
-fn outcome_text(alloc: Global, outcome: Result<Told, PlayFault>) -> Result<Vec<u8>, AllocError>
+fn outcome_text(alloc: Global, outcome: Result<Reply, PlayFault>) -> Result<Vec<u8>, AllocError>
     ensures { IfOk result (λ text. text.items ≡ outcome_text outcome) }
 {
     match outcome {
-        Ok(Told::Text(text)) => Ok(text),
-        Ok(Told::Last(text)) => Ok(text),
+        Ok(Reply::Text(text)) => Ok(text),
+        Ok(Reply::Last(text)) => Ok(text),
         Err(PlayFault::Memory) => Vec::from_slice(alloc, b"E0c"),
         Err(PlayFault::TooLong) => Vec::from_slice(alloc, b"E01"),
     }
 }
 
-fn is_over(outcome: &Result<Told, PlayFault>) -> bool
+fn is_over(outcome: &Result<Reply, PlayFault>) -> bool
     ensures { result ≡ is_over outcome.now }
 {
     match outcome {
-        Ok(Told::Text(_)) => false,
-        Ok(Told::Last(_)) => true,
+        Ok(Reply::Text(_)) => false,
+        Ok(Reply::Last(_)) => true,
         Err(_) => false,
     }
 }
@@ -259,7 +259,7 @@ impl Session {
     // Sends an answer.
     fn send<W: Write>(
         &self,
-        outcome: Result<Told, PlayFault>,
+        outcome: Result<Reply, PlayFault>,
         writer: &mut W,
     ) -> Result<(), ServeError>
         ensures { OnOk result (Appends (W.contents writer.old) (W.contents writer.new) (packet_text (outcome_text outcome))) }

@@ -5,7 +5,7 @@ ghost use Rattle.om_debug.specs.Told.{is_last, text_of};
 ghost use Rattle.om_inferiors.specs.Serving.{IsShownOutcome, pause_text};
 
 use crate::inferiors::Inferiors;
-use om_debug::{Debugger, Told, Wish};
+use om_debug::{Debugger, Reply, Wish};
 use om_timeline::PlayFault;
 use std::alloc::{AllocError, Global};
 
@@ -26,7 +26,7 @@ impl Shown {
         alloc: Global,
         packet: &[u8],
         reader: &mut R,
-    ) -> Result<Told, PlayFault>
+    ) -> Result<Reply, PlayFault>
         ensures outcome { IsShownOutcome packet.now self.old result self.new }
         ensures unread { R.remaining reader.new ≡ R.remaining reader.old }
     {
@@ -37,7 +37,7 @@ impl Shown {
     }
 
     /// Tells that what is shown stands where it stands, as one who asked for a stop is told. Refused only where memory ran out.
-    pub fn interrupted(&self, alloc: Global) -> Result<Told, AllocError>
+    pub fn interrupted(&self, alloc: Global) -> Result<Reply, AllocError>
         ensures paused { IfOk result (λ told. text_of told ≡ pause_text self.now) }
         ensures last { IfOk result (λ told. is_last told ≡ false) }
     {
