@@ -29,6 +29,7 @@ pub(crate) fn start<S: Stable>(rt: &impl Abort, alloc: Global, store: &mut S) {
     }
     let core = ProcCore::start(alloc, &image, 128, Ext::I, Pid::at(1), 3, store);
     assert!(rt; core.is_ok());
+    drop(core);
 }
 
 pub(crate) fn put<S: Stable>(
@@ -66,6 +67,7 @@ receipt 1 from 2 interval 0 number 0 count 3 bytes 4
 replay 0 to 1
 ";
     check(&rt, rt.alloc(), &mut store, text);
+    drop(store);
 }
 
 // A receipt is missing behind the first, so the last is of no use.
@@ -82,6 +84,7 @@ receipt 3 damaged interval 1
 replay 0 to 1
 ";
     check(&rt, rt.alloc(), &mut store, text);
+    drop(store);
 }
 
 // The line of a receipt of which a byte is another, and which is cut or longer, and the last interval that is replayed.
@@ -127,6 +130,7 @@ fn check_altered(
     let first = "checkpoint 0 process 1 of 3 count 0 version 2 bytes 344";
     let text = format!(in alloc; "{first}\nreceipt 1 {line}\nreplay 0 to {last}\n");
     check(rt, alloc, &mut store, text.expect(rt, "memory").as_str());
+    drop(store);
 }
 
 #[test]
@@ -155,6 +159,9 @@ checkpoint 7 damaged field 2
 replay 0 to 1
 ";
     check(&rt, alloc, &mut other, text);
+    drop(other);
+    drop(core);
+    drop(store);
 }
 
 // The two calls that fill the store pass.
@@ -165,4 +172,5 @@ fn a_store_that_fails(rt: HostRuntime) {
     put(&rt, rt.alloc(), &mut store, 1, &RECEIPT);
     let told = content_text(rt.alloc(), &mut store);
     assert!(&rt; told.err() == Some(LookFault::Fault));
+    drop(store);
 }

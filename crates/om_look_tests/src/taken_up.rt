@@ -54,6 +54,7 @@ fn a_start_has_one_row(rt: HostRuntime) {
         &mut store,
         &[(true, 0, [0, 0, 0], [0, 0, 0])],
     );
+    drop(store);
 }
 
 // Two receipts from process 2, sent in its intervals 4 and 3, with one from process 0 between them; then a gap.
@@ -74,6 +75,7 @@ fn receipts_follow_without_a_gap(rt: HostRuntime) {
     check_rows(&rt, rt.alloc(), &mut store, &want);
     let senders = [(1, 2), (2, 0), (3, 2), (5, 2)];
     check_senders(&rt, rt.alloc(), &mut store, &senders);
+    drop(store);
 }
 
 // From the newest checkpoint down, the receipt of its interval follows on the one before.
@@ -96,6 +98,8 @@ fn the_newest_checkpoint_comes_first(rt: HostRuntime) {
     assert_eq!(rt; store.prune(alloc, 1), Ok(()));
     check_rows(&rt, alloc, &mut store, &want[..2]);
     check_senders(&rt, alloc, &mut store, &[(2, 2)]);
+    drop(core);
+    drop(store);
 }
 
 // What is stored at interval 1, and why it stands for no row and no sender.
@@ -142,6 +146,7 @@ fn records_that_are_refused(rt: HostRuntime) {
         let rows = stored_rows(rt.alloc(), &mut store, Pid::at(1), 3);
         let senders = stored_senders(rt.alloc(), &mut store, Pid::at(1), 3);
         assert_eq!(rt; (rows.err(), senders.err()), (Some(*why), *sender));
+        drop(store);
     }
 }
 
@@ -155,6 +160,7 @@ fn a_number_that_is_not_the_next(rt: HostRuntime) {
     let rows = stored_rows(rt.alloc(), &mut store, Pid::at(1), 3);
     assert_eq!(rt; rows.err(), Some(RowsFault::Mismatch(2)));
     check_senders(&rt, rt.alloc(), &mut store, &[(1, 2), (2, 2)]);
+    drop(store);
 }
 
 // The store is another process's, or of another number of processes; or the receipt is another's.
@@ -169,6 +175,7 @@ fn other_stores_are_refused(rt: HostRuntime) {
     put(&rt, rt.alloc(), &mut store, 1, &RECEIPT);
     let senders = stored_senders(rt.alloc(), &mut store, Pid::at(0), 3);
     assert_eq!(rt; senders.err(), Some(RowsFault::Damaged(1)));
+    drop(store);
 }
 
 // A store that fails at its first or its second read.
@@ -179,11 +186,13 @@ fn stores_that_fail(rt: HostRuntime) {
         start(&rt, rt.alloc(), &mut store);
         let rows = stored_rows(rt.alloc(), &mut store, Pid::at(1), 3);
         assert_eq!(rt; rows.err(), Some(RowsFault::Fault));
+        drop(store);
     }
     let mut store = FuseStable::new(MemStable::new(rt.alloc()), 1);
     start(&rt, rt.alloc(), &mut store);
     let senders = stored_senders(rt.alloc(), &mut store, Pid::at(1), 3);
     assert_eq!(rt; senders.err(), Some(RowsFault::Fault));
+    drop(store);
 }
 
 // Kind, version, process, number of processes, extension, and the size and the image, the lowest byte first.
