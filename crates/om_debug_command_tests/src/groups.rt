@@ -1,7 +1,9 @@
 //! All processes of a small record: who is there, who stops, and who leaves.
 
-use crate::told::{symbols_in, told_of_all};
-use om_debug_command::{DebugError, debug_all};
+use crate::told::{check_all, symbols_in};
+use om_debug_command::{DebugError, Symbols, debug_all};
+use std::alloc::Global;
+use std::process::Abort;
 
 // Each process puts 1 into a0, and then adds 1 to it without end: addi a0, zero, 1; addi a0, a0, 1; jal zero, -4.
 static RECORD: &str =
@@ -19,8 +21,7 @@ static ANSWERED: &str =
 
 #[test]
 fn two_processes_in_one_time(rt: HostRuntime) {
-    let written = told_of_all(&rt, rt.alloc(), &[], RECORD, ASKED);
-    assert_eq!(&rt; written.as_slice(), ANSWERED.as_bytes());
+    check_all(&rt, rt.alloc(), &[], RECORD, (ASKED, ANSWERED));
 }
 
 // The processes p and q run a program each that has a file, r one that has none.
@@ -40,8 +41,7 @@ fn files_with_symbols(rt: HostRuntime) {
         symbols_in(&rt, alloc, "b", "/x/q.elf"),
         symbols_in(&rt, alloc, "a", "./a&b.elf"),
     ];
-    let written = told_of_all(&rt, alloc, &symbols, PROGRAMS, FILES_ASKED);
-    assert_eq!(&rt; written.as_slice(), FILES_TOLD.as_bytes());
+    check_all(&rt, alloc, &symbols, PROGRAMS, (FILES_ASKED, FILES_TOLD));
 }
 
 // A program that is there, which no process runs, and one that is not. Nothing is read or written then.
@@ -53,19 +53,28 @@ fn files_of_no_process(rt: HostRuntime) {
             symbols_in(&rt, alloc, "b", "b.elf"),
             symbols_in(&rt, alloc, program, "a.elf"),
         ];
-        let record = "program a 16 00000893 00000073\nprogram b 16 00000893 00000073\nproc p b\n";
-        let mut written = Vec::new(alloc);
-        let mut packets = "$g#67".as_bytes();
-        let outcome = debug_all(
-            alloc,
-            &symbols,
-            &mut record.as_bytes(),
-            &mut packets,
-            &mut written,
-        );
-        assert!(&rt; outcome == Err(DebugError::NoSuchName), "{program}");
-        assert!(&rt; written.is_empty() && packets.len() == 5, "{program}");
+        check_no_process(&rt, alloc, &symbols, program);
     }
+}
+
+const OF_NO_PROCESS: &str =
+    "program a 16 00000893 00000073\nprogram b 16 00000893 00000073\nproc p b\n";
+
+fn check_no_process(rt: &impl Abort, alloc: Global, symbols: &[Symbols], program: &str) {
+    let mut written = Vec::new(alloc);
+    let mut packets = "$g#67".as_bytes();
+    let outcome = debug_all(
+        alloc,
+        symbols,
+        &mut OF_NO_PROCESS.as_bytes(),
+        &mut packets,
+        &mut written,
+    );
+    let is_right = written.is_empty() && packets.len() == 5;
+    assert!(rt;
+        outcome == Err(DebugError::NoSuchName) && is_right,
+        "{program}"
+    );
 }
 
 // p writes 1 to address 12, and q counts, as above, while r does nothing.
@@ -83,8 +92,7 @@ static BACK_TOLD: &str =
 
 #[test]
 fn a_step_back_of_one_among_three(rt: HostRuntime) {
-    let written = told_of_all(&rt, rt.alloc(), &[], THREE, BACK_ASKED);
-    assert_eq!(&rt; written.as_slice(), BACK_TOLD.as_bytes());
+    check_all(&rt, rt.alloc(), &[], THREE, (BACK_ASKED, BACK_TOLD));
 }
 
 // To before an event and to one that is not there, the events around, and what else the user may say.
@@ -97,6 +105,5 @@ static COMMANDS_TOLD: &str =
 
 #[test]
 fn commands_of_the_user(rt: HostRuntime) {
-    let written = told_of_all(&rt, rt.alloc(), &[], THREE, COMMANDS_ASKED);
-    assert_eq!(&rt; written.as_slice(), COMMANDS_TOLD.as_bytes());
+    check_all(&rt, rt.alloc(), &[], THREE, (COMMANDS_ASKED, COMMANDS_TOLD));
 }

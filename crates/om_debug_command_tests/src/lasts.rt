@@ -1,6 +1,6 @@
 //! All processes back to the last stop of any.
 
-use crate::told::told_of_all;
+use crate::told::check_all;
 
 // p writes 1 to address 12, and q and r put 1 into a0, and then add 1 to it without end.
 static RECORD: &str =
@@ -19,8 +19,7 @@ static TOLD: &str =
 
 #[test]
 fn to_the_last_stop_of_any(rt: HostRuntime) {
-    let written = told_of_all(&rt, rt.alloc(), &[], RECORD, ASKED);
-    assert_eq!(&rt; written.as_slice(), TOLD.as_bytes());
+    check_all(&rt, rt.alloc(), &[], RECORD, (ASKED, TOLD));
 }
 
 // p's write comes last in its run, and then q's first instruction.
@@ -38,6 +37,5 @@ static NEAR_TOLD: &str =
 
 #[test]
 fn two_stops_at_one_position(rt: HostRuntime) {
-    let written = told_of_all(&rt, rt.alloc(), &[], NEAR, NEAR_ASKED);
-    assert_eq!(&rt; written.as_slice(), NEAR_TOLD.as_bytes());
+    check_all(&rt, rt.alloc(), &[], NEAR, (NEAR_ASKED, NEAR_TOLD));
 }

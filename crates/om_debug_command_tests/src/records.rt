@@ -1,6 +1,6 @@
 //! Records that are opened, and those that are refused.
 
-use crate::told::told;
+use crate::told::check_told;
 use om_commands::CommandError;
 use om_debug_command::debug;
 use om_text::{LineError, ScriptError};
@@ -18,8 +18,7 @@ static ANSWERED: &str =
 
 #[test]
 fn a_process_of_two(rt: HostRuntime) {
-    let written = told(&rt, rt.alloc(), RECORD, "q", ASKED);
-    assert_eq!(&rt; written.as_slice(), ANSWERED.as_bytes());
+    check_told(&rt, rt.alloc(), RECORD, "q", (ASKED, ANSWERED));
 }
 
 // Records, the name that is asked for, and the refusal: the faults are those of sim, and come before the name is looked up.

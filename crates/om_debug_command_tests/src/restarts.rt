@@ -1,6 +1,6 @@
 //! An event that takes several processes down at once.
 
-use crate::told::told_of_all;
+use crate::told::check_all;
 
 // Each process puts 1 into a0, and then adds 1 to it without end. r fails, and is down when all start again.
 static RECORD: &str =
@@ -17,6 +17,5 @@ static TOLD: &str =
 
 #[test]
 fn all_fail_at_once(rt: HostRuntime) {
-    let written = told_of_all(&rt, rt.alloc(), &[], RECORD, ASKED);
-    assert_eq!(&rt; written.as_slice(), TOLD.as_bytes());
+    check_all(&rt, rt.alloc(), &[], RECORD, (ASKED, TOLD));
 }

@@ -4,14 +4,19 @@ use om_debug_command::{Symbols, debug, debug_all};
 use std::alloc::Global;
 use std::process::Abort;
 
-// Returns what is written to one who asks these packets about a process of a record.
-pub(crate) fn told(
+// What is written to one who asks these packets about a process of a record.
+pub(crate) fn check_told(
     rt: &impl Abort,
     alloc: Global,
     record: &str,
     process: &str,
-    asked: &str,
-) -> Vec<u8> {
+    (asked, wanted): (&str, &str),
+) {
+    let written = told(rt, alloc, record, process, asked);
+    assert_eq!(rt; written.as_slice(), wanted.as_bytes());
+}
+
+fn told(rt: &impl Abort, alloc: Global, record: &str, process: &str, asked: &str) -> Vec<u8> {
     let mut written = Vec::new(alloc);
     let done = debug(
         alloc,
@@ -24,8 +29,19 @@ pub(crate) fn told(
     written
 }
 
-// Returns what is written to one who asks these packets about all processes of a record, with these files for its programs.
-pub(crate) fn told_of_all(
+// What is written to one who asks these packets about all processes of a record, with these files for its programs.
+pub(crate) fn check_all(
+    rt: &impl Abort,
+    alloc: Global,
+    symbols: &[Symbols],
+    record: &str,
+    (asked, wanted): (&str, &str),
+) {
+    let written = told_of_all(rt, alloc, symbols, record, asked);
+    assert_eq!(rt; written.as_slice(), wanted.as_bytes());
+}
+
+fn told_of_all(
     rt: &impl Abort,
     alloc: Global,
     symbols: &[Symbols],

@@ -5,6 +5,7 @@ ghost use Rattle.std.specs.Prelude.{◌≡◌};
 use crate::asking::{make_beside, options, played, told, written};
 use crate::clusters::{COUNTS, GATHERS, LOCK, RING, SIX, TWO, TWO_AS_TEXT};
 use om_commands::BytesForm;
+use om_explore_command::Options;
 use std::alloc::Global;
 use std::process::Abort;
 
@@ -20,18 +21,30 @@ fn file(rt: &impl Abort, alloc: Global, program: &str, names: &[&str]) -> String
 
 const ALL: u64 = 1_000;
 
+// All runs of these processes with one program come to this text.
+fn check_all(rt: &impl Abort, alloc: Global, (program, names): (&str, &[&str]), wanted: &str) {
+    let input = file(rt, alloc, program, names);
+    let text = written(rt, alloc, &options(true, ALL), &input);
+    assert_eq!(rt; text.as_str(), wanted);
+}
+
+// So many runs that are drawn come to a text that ends so.
+fn check_drawn(
+    rt: &impl Abort,
+    alloc: Global,
+    (program, names): (&str, &[&str]),
+    (runs, end): (u64, &str),
+) {
+    let input = file(rt, alloc, program, names);
+    let text = written(rt, alloc, &options(false, runs), &input);
+    assert!(rt; text.ends_with(end), "{text}");
+}
+
 #[test]
 fn all_runs(rt: HostRuntime) {
-    let alloc = rt.alloc();
-    let race = file(&rt, alloc, GATHERS, &["a", "b", "c"]);
-    let text = written(&rt, alloc, &options(true, ALL), &race);
-    assert_eq!(&rt; text.as_str(), TWO);
-    let orders = file(&rt, alloc, GATHERS, &["a", "b", "c", "d"]);
-    let text = written(&rt, alloc, &options(true, ALL), &orders);
-    assert_eq!(&rt; text.as_str(), SIX);
-    let lock = file(&rt, alloc, COUNTS, &["a", "b", "c"]);
-    let text = written(&rt, alloc, &options(true, ALL), &lock);
-    assert_eq!(&rt; text.as_str(), LOCK);
+    check_all(&rt, rt.alloc(), (GATHERS, &["a", "b", "c"]), TWO);
+    check_all(&rt, rt.alloc(), (GATHERS, &["a", "b", "c", "d"]), SIX);
+    check_all(&rt, rt.alloc(), (COUNTS, &["a", "b", "c"]), LOCK);
 }
 
 // One walk comes to the first text, and there are more.
@@ -43,21 +56,22 @@ fn not_all_runs(rt: HostRuntime) {
     assert!(&rt; text.ends_with("one text in 1 runs, not all\n"));
 }
 
+// A program, its processes, how many runs are drawn, and how the text ends.
+static DRAWN: [(&str, &[&str], u64, &str); 4] = [
+    (RING, &[], 10, "one text in 10 runs\n"),
+    (GATHERS, &["a", "b", "c"], 20, "2 texts in 20 runs\n"),
+    (GATHERS, &["a", "b", "c", "d"], 100, "6 texts in 100 runs\n"),
+    (COUNTS, &["a", "b", "c"], 20, "2 texts in 20 runs\n"),
+];
+
 #[test]
 fn drawn_runs(rt: HostRuntime) {
-    let alloc = rt.alloc();
-    let text = written(&rt, alloc, &options(false, 10), RING);
-    assert!(&rt; text.ends_with("one text in 10 runs\n"));
-    let race = file(&rt, alloc, GATHERS, &["a", "b", "c"]);
-    let text = written(&rt, alloc, &options(false, 20), &race);
-    assert!(&rt; text.ends_with("2 texts in 20 runs\n"));
-    let orders = file(&rt, alloc, GATHERS, &["a", "b", "c", "d"]);
-    let text = written(&rt, alloc, &options(false, 100), &orders);
-    assert!(&rt; text.ends_with("6 texts in 100 runs\n"));
-    let lock = file(&rt, alloc, COUNTS, &["a", "b", "c"]);
-    let text = written(&rt, alloc, &options(false, 20), &lock);
+    for (program, names, runs, end) in &DRAWN {
+        check_drawn(&rt, rt.alloc(), (*program, *names), (*runs, *end));
+    }
+    let lock = file(&rt, rt.alloc(), COUNTS, &["a", "b", "c"]);
+    let text = written(&rt, rt.alloc(), &options(false, 20), &lock);
     assert!(&rt; text.contains(" waiting a\n"));
-    assert!(&rt; text.ends_with("2 texts in 20 runs\n"));
 }
 
 // Process `a` of three finishes 30 instructions.
@@ -72,11 +86,15 @@ fn the_most_turns(rt: HostRuntime) {
         let text = written(&rt, alloc, &options, &race);
         assert!(&rt; text.contains("2 texts in "));
         options.turns = 2;
-        let mut context = make_beside(alloc, false);
-        let text = told(&rt, alloc, &options, &race, &mut context);
-        assert_eq!(&rt; text.as_str(), "out of turns");
-        context.check_spent(&rt, " a");
+        check_out_of_turns(&rt, alloc, &options, &race);
     }
+}
+
+fn check_out_of_turns(rt: &impl Abort, alloc: Global, options: &Options, input: &str) {
+    let mut context = make_beside(alloc, false);
+    let text = told(rt, alloc, options, input, &mut context);
+    assert!(rt; text.as_str() == "out of turns");
+    context.check_spent(rt, " a");
 }
 
 // With the bytes as text only the lines of where texts differ are others, and digests stay.
@@ -108,17 +126,23 @@ fn what_is_refused(rt: HostRuntime) {
 // What `a` puts out in each of the two runs.
 static PUT_OUT: [&str; 2] = ["out a 0 01\nout a 1 02\n", "out a 0 02\nout a 1 01\n"];
 
+// Each witness, played, comes to its outputs.
+fn check_witnesses(rt: &impl Abort, alloc: Global, witnesses: &[Vec<u8>]) {
+    assert!(rt; witnesses.len() == 2);
+    for k in 0..2 {
+        let world = played(rt, alloc, &witnesses[k]);
+        assert!(rt; world.ends_with(PUT_OUT[k]));
+    }
+}
+
 #[test]
 fn witnesses(rt: HostRuntime) {
     let alloc = rt.alloc();
     let race = file(&rt, alloc, GATHERS, &["a", "b", "c"]);
     let mut context = make_beside(alloc, true);
     let text = told(&rt, alloc, &options(true, ALL), &race, &mut context);
-    assert_eq!(&rt; text.as_str(), TWO);
+    assert!(&rt; text.as_str() == TWO);
     context.check_spent(&rt, "");
-    assert_eq!(&rt; context.witnesses.len(), 2);
-    for k in 0..2 {
-        let world = played(&rt, alloc, &context.witnesses[k]);
-        assert!(&rt; world.ends_with(PUT_OUT[k]));
-    }
+    check_witnesses(&rt, alloc, &context.witnesses);
+    drop(context);
 }

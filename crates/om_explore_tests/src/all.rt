@@ -76,13 +76,19 @@ impl Visitor for Shown {
     ghost has_seen = { λ _ _. Unit {0} };
 
     fn visit(&mut self, run: Explored) -> Result<(), AllocError> {
-        let mut bytes = put_out(self.alloc, &run.world)?;
-        if run.end == End::Stuck {
-            bytes.push(0xFF)?;
-        }
-        self.runs.push(bytes)?;
+        let bytes = bytes_of(self.alloc, &run);
+        drop(run);
+        self.runs.push(bytes?)?;
         Ok(())
     }
+}
+
+fn bytes_of(alloc: Global, run: &Explored) -> Result<Vec<u8>, AllocError> {
+    let mut bytes = put_out(alloc, &run.world)?;
+    if run.end == End::Stuck {
+        bytes.push(0xFF)?;
+    }
+    Ok(bytes)
 }
 
 // All runs of so many processes with this program within so many walks, and whether these were all.
@@ -137,9 +143,13 @@ fn all_runs_that_there_can_be(rt: HostRuntime) {
     for (program, n, expected) in &RUNS {
         let (whole, runs) = all(&rt, rt.alloc(), words_of(*program), *n, 1_000);
         assert!(&rt; whole);
-        assert_eq!(&rt; runs.len(), expected.len());
-        for k in 0..runs.len() {
-            assert_eq!(&rt; runs[k].as_slice(), expected[k]);
-        }
+        check_runs(&rt, &runs, expected);
+    }
+}
+
+fn check_runs(rt: &impl Abort, runs: &[Vec<u8>], expected: &[&[u8]]) {
+    assert!(rt; runs.len() == expected.len());
+    for k in 0..runs.len() {
+        assert_eq!(rt; runs[k].as_slice(), expected[k]);
     }
 }

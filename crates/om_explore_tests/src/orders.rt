@@ -1,10 +1,11 @@
-ghost use Rattle.std.specs.Prelude.{◌≡◌, IfOk, length};
+ghost use Rattle.std.specs.Prelude.{◌≡◌, ◌≤◌, IfOk, length};
+ghost use Rattle.om_interval.specs.declared.pid.TheConstants.{MAX_PROCESSES};
 
 use om_check::{Delivery, End, Explored, PlayFault, Scheduler, explore};
 use om_interval::{MAX_PROCESSES, Pid};
 use om_isa::Ext;
 use om_manager::Output;
-use om_process::{Accept, Image, Status};
+use om_process::{Accept, Image, StartFault, Status};
 use om_stable::MemStable;
 use om_world::{Answer, Event, World};
 use std::alloc::{AllocError, Global};
@@ -203,20 +204,27 @@ static GATHERED: [(usize, &[usize], &[u8]); 9] = [
     (4, &[2, 1, 0], &[3, 2, 1]),
 ];
 
+// A run to its end: what process 0 puts out of those from whom it received.
+fn check_gathered(rt: &impl Abort, alloc: Global, run: &Explored, bytes: &[u8]) {
+    assert!(rt; run.end == End::Whole);
+    let put_out = put_out(alloc, &run.world).expect(rt, "memory");
+    assert_eq!(rt; put_out.as_slice(), bytes);
+    check_senders(rt, alloc, run, bytes);
+}
+
+// From whom process 0 received.
+fn check_senders(rt: &impl Abort, alloc: Global, run: &Explored, from: &[u8]) {
+    let senders = senders(alloc, run).expect(rt, "memory");
+    assert_eq!(rt; senders.as_slice(), from);
+}
+
+// What owns a run only hands it on: each further call where one is owned is dear to prove, and so is a drop that no call makes.
 #[test]
 fn what_is_picked_is_received(rt: HostRuntime) {
-    let alloc = rt.alloc();
     for (n, places, bytes) in &GATHERED {
-        let run = run(&rt, alloc, &GATHERS, *n, places);
-        assert_eq!(&rt; run.end, End::Whole);
-        assert_eq!(&rt;
-            put_out(alloc, &run.world).expect(&rt, "memory").as_slice(),
-            *bytes
-        );
-        assert_eq!(&rt;
-            senders(alloc, &run).expect(&rt, "memory").as_slice(),
-            *bytes
-        );
+        let run = run(&rt, rt.alloc(), &GATHERS, *n, places);
+        check_gathered(&rt, rt.alloc(), &run, bytes);
+        drop(run);
     }
 }
 
@@ -226,20 +234,36 @@ static COUNTED: [(&[usize], &[u8], End); 2] = [
     (&[1, 0], &[2, 1], End::Stuck),
 ];
 
+fn check_counted(rt: &impl Abort, alloc: Global, run: &Explored, from: &[u8], end: End) {
+    assert!(rt; run.end == end);
+    check_senders(rt, alloc, run, from);
+    let core = run.world.core(Pid::at(0)).expect(rt, "a core");
+    let waits = core.status() == Status::Waiting;
+    assert!(rt; waits == (end == End::Stuck));
+}
+
 #[test]
 fn an_order_in_which_a_process_waits_for_ever(rt: HostRuntime) {
-    let alloc = rt.alloc();
     for (places, from, end) in &COUNTED {
-        let run = run(&rt, alloc, &COUNTS, 3, places);
-        assert_eq!(&rt; run.end, *end);
-        assert_eq!(&rt;
-            senders(alloc, &run).expect(&rt, "memory").as_slice(),
-            *from
-        );
-        let core = run.world.core(Pid::at(0)).expect(&rt, "a core");
-        let waits = core.status() == Status::Waiting;
-        assert_eq!(&rt; waits, *end == End::Stuck);
+        let run = run(&rt, rt.alloc(), &COUNTS, 3, places);
+        check_counted(&rt, rt.alloc(), &run, from, *end);
+        drop(run);
     }
+}
+
+// The world of three processes that gather.
+fn three(alloc: Global) -> Result<World<MemStable>, StartFault> {
+    let images = images(alloc, &GATHERS, 3)?;
+    let stores = three_stores(alloc)?;
+    World::start(alloc, &images, stores)
+}
+
+// Plays events, of which two are messages that are taken, from 2 and then from 1.
+fn check_events(rt: &impl Abort, alloc: Global, world: &mut World<MemStable>, events: &[Event]) {
+    let answers = world.play(alloc, events).expect(rt, "memory");
+    assert!(rt; answers.len() == events.len() && taken(&answers) == 2);
+    let bytes = put_out(alloc, world).expect(rt, "memory");
+    assert!(rt; bytes.as_slice() == [2, 1].as_slice());
 }
 
 // The events of a run, played anew, lead to what it led to.
@@ -247,22 +271,20 @@ fn an_order_in_which_a_process_waits_for_ever(rt: HostRuntime) {
 fn what_happened_is_told(rt: HostRuntime) {
     let alloc = rt.alloc();
     let run = run(&rt, alloc, &GATHERS, 3, &[1, 0]);
-    let images = images(alloc, &GATHERS, 3).expect(&rt, "memory");
-    let stores = three_stores(alloc).expect(&rt, "memory");
-    let mut world = World::start(alloc, &images, stores).expect(&rt, "a world");
-    let answers = world.play(alloc, &run.events).expect(&rt, "memory");
-    assert_eq!(&rt; answers.len(), run.events.len());
-    let bytes = put_out(alloc, &world).expect(&rt, "memory");
-    assert_eq!(&rt; bytes.as_slice(), [2, 1].as_slice());
-    assert_eq!(&rt; taken(&answers), 2);
+    let mut world = three(alloc).expect(&rt, "a world");
+    check_events(&rt, alloc, &mut world, &run.events);
+    drop(world);
+    drop(run);
 }
 
 // Returns what comes of a run, in a word, and of which process.
 fn word_of(told: Result<Option<Explored>, PlayFault>) -> (&'static str, usize) {
-    match told {
-        Ok(run) => (run_word(&run), 0),
-        Err(fault) => fault_word(fault),
-    }
+    let word = match &told {
+        Ok(run) => (run_word(run), 0),
+        Err(fault) => fault_word(*fault),
+    };
+    drop(told);
+    word
 }
 
 fn run_word(run: &Option<Explored>) -> &'static str {
@@ -279,37 +301,45 @@ fn fault_word(fault: PlayFault) -> (&'static str, usize) {
     }
 }
 
+// What comes of a run of three within so many instructions of each, where these places are picked.
+fn word_of_three(
+    rt: &impl Abort,
+    alloc: Global,
+    places: &[usize],
+    most: u64,
+) -> (&'static str, usize) {
+    let images = images(alloc, &GATHERS, 3).expect(rt, "memory");
+    let mut listed = Listed {
+        places: places.to_vec(alloc).expect(rt, "memory"),
+        at: 0,
+    };
+    word_of(explore(alloc, &images, &mut listed, most))
+}
+
 // Process 0 of three finishes 5 instructions, 11 for each message, and 3 more before it ends.
 #[test]
 fn the_most_instructions(rt: HostRuntime) {
-    let alloc = rt.alloc();
-    let images = images(alloc, &GATHERS, 3).expect(&rt, "memory");
-    let mut first = Listed {
-        places: Vec::new(alloc),
-        at: 0,
-    };
-    let enough = word_of(explore(alloc, &images, &mut first, 30));
-    assert_eq!(&rt; enough, ("ended", 0));
-    first.at = 0;
-    let spent = word_of(explore(alloc, &images, &mut first, 29));
-    assert_eq!(&rt; spent, ("spent", 0));
+    assert!(&rt; word_of_three(&rt, rt.alloc(), &[], 30) == ("ended", 0));
+    assert!(&rt; word_of_three(&rt, rt.alloc(), &[], 29) == ("spent", 0));
 }
 
+// Each pick is given up.
+fn word_of_none(alloc: Global, images: &[Image]) -> (&'static str, usize)
+    requires some { 1 ≤ length images.now }
+    requires few { length images.now ≤ MAX_PROCESSES }
+{
+    word_of(explore(alloc, images, &mut Never, MANY))
+}
+
+// Where nothing is picked, or what is not there; one that is alone ends.
 #[test]
 fn a_run_is_given_up(rt: HostRuntime) {
     let alloc = rt.alloc();
-    let images = images(alloc, &GATHERS, 3).expect(&rt, "memory");
-    let never = word_of(explore(alloc, &images, &mut Never, MANY));
-    assert_eq!(&rt; never, ("given up", 0));
-    let mut beyond = Listed {
-        places: vec![in alloc; 2].expect(&rt, "memory"),
-        at: 0,
-    };
-    let none_there = word_of(explore(alloc, &images, &mut beyond, MANY));
-    assert_eq!(&rt; none_there, ("given up", 0));
+    let three = images(alloc, &GATHERS, 3).expect(&rt, "memory");
+    assert!(&rt; word_of_none(alloc, &three) == ("given up", 0));
+    assert!(&rt; word_of_three(&rt, alloc, &[2], MANY) == ("given up", 0));
     let alone = images_of_one(&rt, alloc);
-    let ended = word_of(explore(alloc, &alone, &mut Never, MANY));
-    assert_eq!(&rt; ended, ("ended", 0));
+    assert!(&rt; word_of_none(alloc, &alone) == ("ended", 0));
 }
 
 fn images_of_one(rt: &impl Abort, alloc: Global) -> Vec<Image>

@@ -1,23 +1,28 @@
 //! The rows of `replay` over a file of the system: as a run leaves it that was killed, with its rows in the log beside it, and as one
 //! that ended well.
 
-use crate::places::{new_folder, path_in};
+use crate::places::{new_folder, path_in, remove};
 use crate::replay::{RECEIPT, ROWS, fill};
 use om_files::replay_file;
 use om_store_files::{is_written, settle};
 use om_tables::SqlStable;
-use sqlite::Connection;
-use std::fs;
+use sqlite::{Alter, Connection};
+use std::alloc::Global;
 use std::process::Abort;
+
+// Makes the store of the rows over a new database. It is generic over what that lies in: each call at files is dear to prove.
+fn make_over<S: Alter + Drop>(stop: &impl Abort, alloc: Global, conn: Connection<S>) {
+    assert!(stop; conn.is_autocommit());
+    match SqlStable::create(alloc, conn) {
+        Ok(mut store) => fill(stop, alloc, &mut store, &RECEIPT),
+        Err((error, _conn)) => panic!(stop; "{error:?}"),
+    }
+}
 
 // Makes the store of the rows in a new file.
 fn make(rt: &HostRuntime, stop: &impl Abort, file: &str) {
     let conn = Connection::open(rt, file).expect(stop, "a database");
-    assert!(stop; conn.is_autocommit());
-    match SqlStable::create(rt.alloc(), conn) {
-        Ok(mut store) => fill(stop, rt.alloc(), &mut store, &RECEIPT),
-        Err((error, _conn)) => panic!(stop; "{error:?}"),
-    }
+    make_over(stop, rt.alloc(), conn);
 }
 
 fn check_rows(rt: &HostRuntime, stop: &impl Abort, file: &str) {
@@ -41,5 +46,5 @@ fn rows_of_a_file_and_its_log(rt: HostRuntime) {
     settle(&rt, &rt, &prefix, 1);
     assert!(&rt; !is_written(&rt, &log));
     check_rows(&rt, &rt, &file);
-    fs::remove_dir_all(&rt, folder.as_str()).expect(&rt, "an end");
+    remove(&rt, &rt, &folder);
 }

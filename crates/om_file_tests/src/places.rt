@@ -31,6 +31,24 @@ fn write(rt: &HostRuntime, stop: &impl Abort, folder: &str, name: &str, text: &s
     path
 }
 
+// Files by their names, and what they have.
+fn write_all(rt: &HostRuntime, stop: &impl Abort, folder: &str, files: &[(&str, &str)]) {
+    for (name, text) in files {
+        write(rt, stop, folder, name, text);
+    }
+}
+
+/// Removes the folder of a test.
+pub fn remove(rt: &HostRuntime, stop: &impl Abort, folder: &str) {
+    fs::remove_dir_all(rt, folder).expect(stop, "an end");
+}
+
+fn link(rt: &HostRuntime, stop: &impl Abort, folder: &str, (name, to): (&str, &str)) -> String {
+    let path = path_in(rt, stop, folder, name);
+    symlink(rt, to, path.as_str()).expect(stop, "a link");
+    path
+}
+
 // Which of the names are there, and no others of these.
 fn check_there(rt: &HostRuntime, stop: &impl Abort, folder: &str, names: &[(&str, bool)]) {
     for (name, is_there) in names {
@@ -75,42 +93,61 @@ fn two_runs_at_one_prefix(rt: HostRuntime) {
     );
     first.remove_empty(&rt, &prefix);
     check_there(&rt, &rt, &folder, &[("s0.db", false), ("s1.db", false)]);
-    fs::remove_dir_all(&rt, folder.as_str()).expect(&rt, "an end");
+    remove(&rt, &rt, &folder);
 }
+
+// By prefix, the name that is taken, and whether it is an empty file.
+static TAKEN: [(&str, &str, bool); 3] = [
+    ("t", "t1.db", false),
+    ("u", "u1.db-wal", true),
+    ("v", "v0.db", false),
+];
+
+static NOT_TAKEN: [(&str, bool); 4] = [
+    ("t0.db", false),
+    ("t1.db", true),
+    ("u0.db", false),
+    ("v1.db", false),
+];
 
 #[test]
 fn names_that_are_taken(rt: HostRuntime) {
     let folder = new_folder(&rt, &rt);
-    write(&rt, &rt, &folder, "t1.db", "x");
-    write(&rt, &rt, &folder, "u1.db-wal", "");
-    let link = path_in(&rt, &rt, &folder, "v0.db");
-    symlink(&rt, "nowhere", link.as_str()).expect(&rt, "a link");
-    for (prefix, name, is_empty) in [
-        ("t", "t1.db", false),
-        ("u", "u1.db-wal", true),
-        ("v", "v0.db", false),
-    ] {
-        check_refused(
-            &rt,
-            &rt,
-            &path_in(&rt, &rt, &folder, prefix),
-            2,
-            name,
-            is_empty,
-        );
+    write_all(&rt, &rt, &folder, &[("t1.db", "x"), ("u1.db-wal", "")]);
+    link(&rt, &rt, &folder, ("v0.db", "nowhere"));
+    for (prefix, name, is_empty) in &TAKEN {
+        let prefix = path_in(&rt, &rt, &folder, prefix);
+        check_refused(&rt, &rt, &prefix, 2, name, *is_empty);
     }
-    check_there(
-        &rt,
-        &rt,
-        &folder,
-        &[
-            ("t0.db", false),
-            ("t1.db", true),
-            ("u0.db", false),
-            ("v1.db", false),
-        ],
+    check_there(&rt, &rt, &folder, &NOT_TAKEN);
+    remove(&rt, &rt, &folder);
+}
+
+// What is written where five files were made: into them and into logs.
+static INTO: [(&str, &str); 4] = [
+    ("s0.db", "x"),
+    ("s1.db-wal", "x"),
+    ("s2.db-wal", ""),
+    ("other", ""),
+];
+
+static KEPT: [(&str, bool); 7] = [
+    ("s0.db", true),
+    ("s1.db", true),
+    ("s1.db-wal", true),
+    ("s2.db", false),
+    ("s2.db-wal", false),
+    ("s3.db", true),
+    ("s4.db", false),
+];
+
+// Gives a file the name of another.
+fn rename(rt: &HostRuntime, stop: &impl Abort, folder: &str, from: &str, to: &str) {
+    let (from, to) = (
+        path_in(rt, stop, folder, from),
+        path_in(rt, stop, folder, to),
     );
-    fs::remove_dir_all(&rt, folder.as_str()).expect(&rt, "an end");
+    fs::rename(rt, from.as_str(), to.as_str()).expect(stop, "another file");
 }
 
 // Of the files that were made those stay that have something in them, or whose log has, and what has the name of one by now.
@@ -119,33 +156,11 @@ fn files_that_are_not_removed(rt: HostRuntime) {
     let folder = new_folder(&rt, &rt);
     let prefix = path_in(&rt, &rt, &folder, "s");
     let places = Places::make(&rt, &prefix, 5).expect(&rt, "five files");
-    write(&rt, &rt, &folder, "s0.db", "x");
-    write(&rt, &rt, &folder, "s1.db-wal", "x");
-    write(&rt, &rt, &folder, "s2.db-wal", "");
-    let (other, third) = (
-        write(&rt, &rt, &folder, "other", ""),
-        path_in(&rt, &rt, &folder, "s3.db"),
-    );
-    fs::rename(&rt, other.as_str(), third.as_str()).expect(&rt, "another file");
+    write_all(&rt, &rt, &folder, &INTO);
+    rename(&rt, &rt, &folder, "other", "s3.db");
     places.remove_empty(&rt, &prefix);
-    check_there(
-        &rt,
-        &rt,
-        &folder,
-        &[("s0.db", true), ("s1.db", true), ("s1.db-wal", true)],
-    );
-    check_there(
-        &rt,
-        &rt,
-        &folder,
-        &[
-            ("s2.db", false),
-            ("s2.db-wal", false),
-            ("s3.db", true),
-            ("s4.db", false),
-        ],
-    );
-    fs::remove_dir_all(&rt, folder.as_str()).expect(&rt, "an end");
+    check_there(&rt, &rt, &folder, &KEPT);
+    remove(&rt, &rt, &folder);
 }
 
 // Names, and whether what is written there is a store of two processes or lies beside one.
@@ -164,54 +179,59 @@ static NAMES: [(&str, bool); 12] = [
     ("missing/s0.db", false),
 ];
 
+// Returns whether the name in a folder is that of a store of two processes, or lies beside one.
+fn clashes(rt: &HostRuntime, stop: &impl Abort, folder: &str, name: &str) -> bool {
+    let prefix = path_in(rt, stop, folder, "s");
+    let path = path_in(rt, stop, folder, name);
+    clashes_with_stores(rt, &path, &prefix, 2).expect(stop, "memory")
+}
+
 #[test]
 fn names_of_stores(rt: HostRuntime) {
     let folder = new_folder(&rt, &rt);
-    let prefix = path_in(&rt, &rt, &folder, "s");
-    fs::create_dir(&rt, path_in(&rt, &rt, &folder, "sub").as_str()).expect(&rt, "a folder");
-    symlink(
-        &rt,
-        "sub/../s0.db",
-        path_in(&rt, &rt, &folder, "link").as_str(),
-    )
-    .expect(&rt, "a link");
-    for (name, clashes) in &NAMES {
-        let path = path_in(&rt, &rt, &folder, name);
-        let found = clashes_with_stores(&rt, &path, &prefix, 2).expect(&rt, "memory");
-        assert!(&rt; found == *clashes, "{name}");
+    let sub = path_in(&rt, &rt, &folder, "sub");
+    fs::create_dir(&rt, sub.as_str()).expect(&rt, "a folder");
+    link(&rt, &rt, &folder, ("link", "sub/../s0.db"));
+    for (name, wanted) in &NAMES {
+        assert!(&rt; clashes(&rt, &rt, &folder, name) == *wanted, "{name}");
     }
-    fs::remove_dir_all(&rt, folder.as_str()).expect(&rt, "an end");
+    remove(&rt, &rt, &folder);
+}
+
+// Names, and whether they are those of the input.
+static INPUTS: [(&str, bool); 5] = [
+    ("input", true),
+    ("same", true),
+    ("link", true),
+    ("other", false),
+    ("missing", false),
+];
+
+fn check_input(
+    rt: &HostRuntime,
+    stop: &impl Abort,
+    folder: &str,
+    input: &str,
+    (name, clash): (&str, bool),
+) {
+    let path = path_in(rt, stop, folder, name);
+    let found = clash_with_streams(rt, &path, Some(input));
+    let wanted = if clash { Some(Clash::Input) } else { None };
+    assert!(stop; found == wanted, "{name}");
 }
 
 #[test]
 fn names_of_the_input(rt: HostRuntime) {
     let folder = new_folder(&rt, &rt);
     let input = write(&rt, &rt, &folder, "input", "x");
-    let (same, link) = (
-        path_in(&rt, &rt, &folder, "same"),
-        path_in(&rt, &rt, &folder, "link"),
-    );
+    let same = path_in(&rt, &rt, &folder, "same");
     fs::hard_link(&rt, input.as_str(), same.as_str()).expect(&rt, "a name");
-    symlink(&rt, "same", link.as_str()).expect(&rt, "a link");
-    let other = write(&rt, &rt, &folder, "other", "x");
-    for (name, clash) in [
-        (&input, true),
-        (&same, true),
-        (&link, true),
-        (&other, false),
-    ] {
-        let found = clash_with_streams(&rt, name, Some(input.as_str()));
-        assert!(&rt;
-            found == if clash { Some(Clash::Input) } else { None },
-            "{name}"
-        );
+    link(&rt, &rt, &folder, ("link", "same"));
+    write(&rt, &rt, &folder, "other", "x");
+    for row in &INPUTS {
+        check_input(&rt, &rt, &folder, &input, *row);
     }
-    let missing = path_in(&rt, &rt, &folder, "missing");
-    assert_eq!(&rt;
-        clash_with_streams(&rt, &missing, Some(input.as_str())),
-        None
-    );
-    fs::remove_dir_all(&rt, folder.as_str()).expect(&rt, "an end");
+    remove(&rt, &rt, &folder);
 }
 
 // The file is told to be no store in words that begin so.
@@ -240,59 +260,69 @@ pub fn make_database(
 const TABLES: &str = "CREATE TABLE receipts (x INTEGER PRIMARY KEY, body BLOB NOT NULL);
 CREATE TABLE checkpoints (x INTEGER PRIMARY KEY, body BLOB NOT NULL);";
 
+// What a file has, and how what is told of it begins.
+static TEXTS: [(&str, &str); 4] = [
+    ("", "is half a store"),
+    ("\0lite", "is half a store"),
+    ("text", "is no database"),
+    ("SQLite", "cannot be read"),
+];
+
+// A database and the statements that make it, and how what is told of it begins.
+static DATABASES: [(&str, &str, &str, &str); 4] = [
+    (
+        "more",
+        TABLES,
+        "CREATE TABLE notes (text TEXT);",
+        "has an index",
+    ),
+    (
+        "none",
+        "",
+        "CREATE TABLE notes (text TEXT); DROP TABLE notes;",
+        "is half a store",
+    ),
+    (
+        "one",
+        "",
+        "CREATE TABLE notes (text TEXT);",
+        "is a database without",
+    ),
+    ("store", TABLES, "", "is a store"),
+];
+
+// Makes a database by statements and then by more.
+fn make_tables(
+    rt: &HostRuntime,
+    stop: &impl Abort,
+    folder: &str,
+    name: &str,
+    (tables, more): (&str, &str),
+) -> String {
+    let statements = format!(in rt.alloc(); "{tables} {more}").expect(stop, "memory");
+    make_database(rt, stop, folder, name, &statements)
+}
+
 #[test]
 fn files_that_are_no_stores(rt: HostRuntime) {
     let folder = new_folder(&rt, &rt);
-    for (text, words) in [
-        ("", "is half a store"),
-        ("\0lite", "is half a store"),
-        ("text", "is no database"),
-        ("SQLite", "cannot be read"),
-    ] {
+    for (text, words) in &TEXTS {
         check_fault(&rt, &rt, &write(&rt, &rt, &folder, "file", text), words);
     }
     check_fault(&rt, &rt, &folder, "is no file");
-    check_fault(
-        &rt,
-        &rt,
-        &path_in(&rt, &rt, &folder, "missing"),
-        "No such file",
-    );
-    let more = format!(in rt.alloc(); "{TABLES} CREATE TABLE notes (text TEXT);").expect(
-        &rt, "memory",
-    );
-    check_fault(
-        &rt,
-        &rt,
-        &make_database(&rt, &rt, &folder, "more", &more),
-        "has an index",
-    );
-    check_fault(
-        &rt,
-        &rt,
-        &make_database(
-            &rt,
-            &rt,
-            &folder,
-            "none",
-            "CREATE TABLE notes (text TEXT); DROP TABLE notes;",
-        ),
-        "is half a store",
-    );
-    let one = "CREATE TABLE notes (text TEXT);";
-    check_fault(
-        &rt,
-        &rt,
-        &make_database(&rt, &rt, &folder, "one", one),
-        "is a database without",
-    );
-    check_fault(
-        &rt,
-        &rt,
-        &make_database(&rt, &rt, &folder, "store", TABLES),
-        "is a store",
-    );
-    fs::remove_dir_all(&rt, folder.as_str()).expect(&rt, "an end");
+    let missing = path_in(&rt, &rt, &folder, "missing");
+    check_fault(&rt, &rt, &missing, "No such file");
+    remove(&rt, &rt, &folder);
+}
+
+#[test]
+fn databases_that_are_no_stores(rt: HostRuntime) {
+    let folder = new_folder(&rt, &rt);
+    for (name, tables, more, words) in &DATABASES {
+        let file = make_tables(&rt, &rt, &folder, name, (*tables, *more));
+        check_fault(&rt, &rt, &file, words);
+    }
+    remove(&rt, &rt, &folder);
 }
 
 const MORE_TABLES: &str = "CREATE TABLE outputs (x INTEGER PRIMARY KEY, body BLOB NOT NULL);
@@ -312,23 +342,67 @@ fn check_blamed(rt: &HostRuntime, stop: &impl Abort, prefix: &str, n: usize, wor
     }
 }
 
+const CLOSED: &str =
+    "s3.db: is a store of a run without --resume, which no run takes up: another --store, or move it";
+
+const TEXT: &str = "s2.db: is no database of SQLite";
+
 // A run that resumes takes up stores of five tables, and makes what is not there or half made.
 #[test]
 fn stores_that_are_not_taken_up(rt: HostRuntime) {
     let folder = new_folder(&rt, &rt);
-    let five = format!(in rt.alloc(); "{TABLES} {MORE_TABLES}").expect(&rt, "memory");
-    make_database(&rt, &rt, &folder, "s0.db", &five);
+    make_tables(&rt, &rt, &folder, "s0.db", (TABLES, MORE_TABLES));
     write(&rt, &rt, &folder, "s1.db", "");
     make_database(&rt, &rt, &folder, "s3.db", TABLES);
     let prefix = path_in(&rt, &rt, &folder, "s");
     check_blamed(&rt, &rt, &prefix, 3, None);
-    let closed =
-        "s3.db: is a store of a run without --resume, which no run takes up: another --store, or move it";
-    check_blamed(&rt, &rt, &prefix, 4, Some(closed));
+    check_blamed(&rt, &rt, &prefix, 4, Some(CLOSED));
     write(&rt, &rt, &folder, "s2.db", "text");
-    let text = "s2.db: is no database of SQLite";
-    check_blamed(&rt, &rt, &prefix, 4, Some(text));
-    fs::remove_dir_all(&rt, folder.as_str()).expect(&rt, "an end");
+    check_blamed(&rt, &rt, &prefix, 4, Some(TEXT));
+    remove(&rt, &rt, &folder);
+}
+
+// What stands there before a start that is refused, beside a database.
+static BEFORE: [(&str, &str); 2] = [("s1.db", ""), ("s2.db-wal", "")];
+
+// What the start makes, beside a log with a page.
+static MADE: [(&str, &str); 7] = [
+    ("s0.db-wal", "a head"),
+    ("s1.db-wal", ""),
+    ("s2.db", ""),
+    ("s3.db", ""),
+    ("s3.db-wal", ""),
+    ("s4.db", ""),
+    ("s5.db", "x"),
+];
+
+static LEFT: [(&str, bool); 12] = [
+    ("s0.db", true),
+    ("s0.db-wal", false),
+    ("s1.db", true),
+    ("s1.db-wal", false),
+    ("s2.db", true),
+    ("s2.db-wal", true),
+    ("s3.db", false),
+    ("s3.db-wal", false),
+    ("s4.db", true),
+    ("s4.db-wal", true),
+    ("s5.db", true),
+    ("s5.db-wal", false),
+];
+
+// A database whose log is removed: a connection that is closed leaves it.
+fn make_without_log(rt: &HostRuntime, stop: &impl Abort, folder: &str) {
+    make_database(rt, stop, folder, "s0.db", TABLES);
+    let log = path_in(rt, stop, folder, "s0.db-wal");
+    fs::remove_file(rt, log.as_str()).expect(stop, "a log");
+}
+
+fn write_page(rt: &HostRuntime, stop: &impl Abort, folder: &str, name: &str) {
+    let page = "a page of a log"
+        .repeat(rt.alloc(), 40)
+        .expect(stop, "memory");
+    write(rt, stop, folder, name, &page);
 }
 
 // Of what a refused start made nothing is left that holds nothing; what stood there before stays, and what has a page in its log.
@@ -336,52 +410,14 @@ fn stores_that_are_not_taken_up(rt: HostRuntime) {
 fn what_a_refused_start_leaves(rt: HostRuntime) {
     let folder = new_folder(&rt, &rt);
     let prefix = path_in(&rt, &rt, &folder, "s");
-    make_database(&rt, &rt, &folder, "s0.db", TABLES);
-    // A connection that is closed leaves its log.
-    let log = path_in(&rt, &rt, &folder, "s0.db-wal");
-    fs::remove_file(&rt, log.as_str()).expect(&rt, "a log");
-    write(&rt, &rt, &folder, "s1.db", "");
-    write(&rt, &rt, &folder, "s2.db-wal", "");
+    make_without_log(&rt, &rt, &folder);
+    write_all(&rt, &rt, &folder, &BEFORE);
     let standing = FilesBefore::of(&rt, &prefix, 6).expect(&rt, "memory");
-    write(&rt, &rt, &folder, "s0.db-wal", "a head");
-    write(&rt, &rt, &folder, "s1.db-wal", "");
-    write(&rt, &rt, &folder, "s2.db", "");
-    write(&rt, &rt, &folder, "s3.db", "");
-    write(&rt, &rt, &folder, "s3.db-wal", "");
-    write(&rt, &rt, &folder, "s4.db", "");
-    let page = "a page of a log"
-        .repeat(rt.alloc(), 40)
-        .expect(&rt, "memory");
-    write(&rt, &rt, &folder, "s4.db-wal", &page);
-    write(&rt, &rt, &folder, "s5.db", "x");
+    write_all(&rt, &rt, &folder, &MADE);
+    write_page(&rt, &rt, &folder, "s4.db-wal");
     standing.tidy(&rt, &prefix);
-    check_there(
-        &rt,
-        &rt,
-        &folder,
-        &[
-            ("s0.db", true),
-            ("s0.db-wal", false),
-            ("s1.db", true),
-            ("s1.db-wal", false),
-            ("s2.db", true),
-            ("s2.db-wal", true),
-        ],
-    );
-    check_there(
-        &rt,
-        &rt,
-        &folder,
-        &[
-            ("s3.db", false),
-            ("s3.db-wal", false),
-            ("s4.db", true),
-            ("s4.db-wal", true),
-            ("s5.db", true),
-            ("s5.db-wal", false),
-        ],
-    );
-    fs::remove_dir_all(&rt, folder.as_str()).expect(&rt, "an end");
+    check_there(&rt, &rt, &folder, &LEFT);
+    remove(&rt, &rt, &folder);
 }
 
 // Starts of files, and whether they are those of a database or of a log of one: by SQLite's description of its files.
@@ -396,22 +432,23 @@ static STARTS: [(&[u8], bool); 8] = [
     (b"", false),
 ];
 
+// A file is found to be a database or the log of one, or not.
+fn check_database(rt: &HostRuntime, stop: &impl Abort, file: &str, clashes: bool) {
+    let found = clash_with_databases(rt, file);
+    let wanted = if clashes { Some(Clash::Database) } else { None };
+    assert!(stop; found == wanted, "{file}");
+}
+
 #[test]
 fn databases_that_are_not_overwritten(rt: HostRuntime) {
     let folder = new_folder(&rt, &rt);
-    let file = path_in(&rt, &rt, &folder, "file");
-    for (start, clashes) in &STARTS {
+    for (k, (start, clashes)) in STARTS.iter().enumerate() {
+        let file = format!(in rt.alloc(); "{folder}/row {k}").expect(&rt, "memory");
         fs::write(&rt, file.as_str(), *start).expect(&rt, "a file");
-        let found = clash_with_databases(&rt, &file);
-        let wanted = if *clashes {
-            Some(Clash::Database)
-        } else {
-            None
-        };
-        assert_eq!(&rt; found, wanted, "{start:?}");
+        check_database(&rt, &rt, &file, *clashes);
     }
-    assert_eq!(&rt; clash_with_databases(&rt, &folder), None);
+    check_database(&rt, &rt, &folder, false);
     let missing = path_in(&rt, &rt, &folder, "missing");
-    assert_eq!(&rt; clash_with_databases(&rt, &missing), None);
-    fs::remove_dir_all(&rt, folder.as_str()).expect(&rt, "an end");
+    check_database(&rt, &rt, &missing, false);
+    remove(&rt, &rt, &folder);
 }

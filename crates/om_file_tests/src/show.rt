@@ -102,6 +102,7 @@ fn a_ledger_is_shown_behind_its_records(rt: HostRuntime) {
         written.push_str(line).expect(&rt, "memory");
     }
     check(&rt, rt.alloc(), &mut store, &written);
+    drop(store);
 }
 
 #[test]
@@ -110,6 +111,7 @@ fn a_store_that_does_not_say_what_it_is_of(rt: HostRuntime) {
         let mut store = MemLedger::new(rt.alloc());
         put(&rt, rt.alloc(), &mut store, (LedgerTable::About, 0), bytes);
         check(&rt, rt.alloc(), &mut store, "about 0 damaged\n");
+        drop(store);
     }
 }
 
@@ -150,6 +152,7 @@ fn the_longest_output_is_shown(rt: HostRuntime) {
         .push_str("\noutput 1 damaged trailing\n")
         .expect(&rt, "memory");
     check(&rt, rt.alloc(), &mut store, &written);
+    drop(store);
 }
 
 // Each of the calls of a look is stopped in turn: three for the tables, and then those for the records.
@@ -161,5 +164,6 @@ fn a_ledger_that_fails(rt: HostRuntime) {
         let told = show_all(rt.alloc(), &mut store, &mut text);
         assert!(&rt; told == Err(CommandError::StoreFault), "{calls}");
         assert!(&rt; text.is_empty());
+        drop(store);
     }
 }

@@ -29,6 +29,7 @@ pub(crate) fn start<S: Stable>(rt: &impl Abort, alloc: Global, store: &mut S) {
     }
     let core = ProcCore::start(alloc, &image, 128, Ext::I, Pid::at(1), 3, store);
     assert!(rt; core.is_ok());
+    drop(core);
 }
 
 pub(crate) fn put<S: Stable>(
@@ -42,7 +43,8 @@ pub(crate) fn put<S: Stable>(
     let mut receipts = Vec::new(alloc);
     receipts.push(bytes).expect(rt, "memory");
     assert!(rt; receipts.len() == 1 && x < 1000);
-    assert_eq!(rt; store.put_receipts(alloc, x, &receipts), Ok(()));
+    let put = store.put_receipts(alloc, x, &receipts);
+    put.expect(rt, "stored");
 }
 
 fn check<S: Stable>(rt: &impl Abort, alloc: Global, store: &mut S, text: &str) {
@@ -66,6 +68,7 @@ receipt 1 from 2 interval 0 number 0 count 3 bytes 4
 replay 0 to 1
 ";
     check(&rt, rt.alloc(), &mut store, text);
+    drop(store);
 }
 
 // A receipt is missing behind the first, so the last is of no use.
@@ -82,6 +85,7 @@ receipt 3 damaged interval 1
 replay 0 to 1
 ";
     check(&rt, rt.alloc(), &mut store, text);
+    drop(store);
 }
 
 // The line of a receipt of which a byte is another, and which is cut or longer, and the last interval that is replayed.
@@ -118,15 +122,27 @@ fn check_altered(
     (place, byte): (usize, u8),
     (line, last): (&str, &str),
 ) {
-    let mut receipt = RECEIPT;
-    assert!(rt; place < receipt.len() && len <= receipt.len());
-    receipt[place] = byte;
     let mut store = MemStable::new(alloc);
     start(rt, alloc, &mut store);
-    put(rt, alloc, &mut store, 1, &receipt[..len]);
+    put_altered(rt, alloc, &mut store, len, (place, byte));
     let first = "checkpoint 0 process 1 of 3 count 0 version 2 bytes 344";
     let text = format!(in alloc; "{first}\nreceipt 1 {line}\nreplay 0 to {last}\n");
     check(rt, alloc, &mut store, text.expect(rt, "memory").as_str());
+    drop(store);
+}
+
+// Puts so many bytes of the receipt, of which one is another.
+fn put_altered(
+    rt: &impl Abort,
+    alloc: Global,
+    store: &mut MemStable,
+    len: usize,
+    (place, byte): (usize, u8),
+) {
+    let mut receipt = RECEIPT;
+    assert!(rt; place < receipt.len() && len <= receipt.len());
+    receipt[place] = byte;
+    put(rt, alloc, store, 1, &receipt[..len]);
 }
 
 #[test]
@@ -136,25 +152,38 @@ fn receipts_that_are_altered(rt: HostRuntime) {
     }
 }
 
+// Puts the checkpoint of the process of a store in its interval 1 into another store.
+fn put_checkpoint(rt: &impl Abort, alloc: Global, from: &mut MemStable, to: &mut MemStable) {
+    let mut core = ProcCore::replay(alloc, from, 1).expect(rt, "a process");
+    core.checkpoint(alloc, to).expect(rt, "stored");
+    drop(core);
+}
+
+// The same into a store right after its start, and a third one that is none.
+fn put_both(rt: &impl Abort, alloc: Global, store: &mut MemStable) {
+    let mut from = MemStable::new(alloc);
+    start(rt, alloc, &mut from);
+    put(rt, alloc, &mut from, 1, &RECEIPT);
+    put_checkpoint(rt, alloc, &mut from, store);
+    drop(from);
+    let none = store.put_checkpoint(alloc, 7, &[0x43, 2, 17]);
+    none.expect(rt, "stored");
+}
+
 // The checkpoint of interval 1 stands for the receipt, which is not there: the two ranges are one. A third one is none.
 #[test]
 fn checkpoints(rt: HostRuntime) {
-    let alloc = rt.alloc();
-    let mut store = MemStable::new(alloc);
-    start(&rt, alloc, &mut store);
-    put(&rt, alloc, &mut store, 1, &RECEIPT);
-    let mut core = ProcCore::replay(alloc, &mut store, 1).expect(&rt, "a process");
-    let mut other = MemStable::new(alloc);
-    start(&rt, alloc, &mut other);
-    assert_eq!(rt; core.checkpoint(alloc, &mut other), Ok(()));
-    assert_eq!(rt; other.put_checkpoint(alloc, 7, &[0x43, 2, 17]), Ok(()));
+    let mut store = MemStable::new(rt.alloc());
+    start(&rt, rt.alloc(), &mut store);
+    put_both(&rt, rt.alloc(), &mut store);
     let text = "\
 checkpoint 0 process 1 of 3 count 0 version 2 bytes 344
 checkpoint 1 process 1 of 3 count 4 version 2 bytes 344
 checkpoint 7 damaged field 2
 replay 0 to 1
 ";
-    check(&rt, alloc, &mut other, text);
+    check(&rt, rt.alloc(), &mut store, text);
+    drop(store);
 }
 
 // The two calls that fill the store pass.
@@ -165,4 +194,5 @@ fn a_store_that_fails(rt: HostRuntime) {
     put(&rt, rt.alloc(), &mut store, 1, &RECEIPT);
     let told = content_text(rt.alloc(), &mut store);
     assert!(&rt; told.err() == Some(LookFault::Fault));
+    drop(store);
 }

@@ -25,20 +25,19 @@ type Want = (bool, u32, [u32; 3], [u32; 3]);
 
 fn check_rows<S: Stable>(rt: &impl Abort, alloc: Global, store: &mut S, want: &[Want]) {
     let rows = stored_rows(alloc, store, Pid::at(1), 3).expect(rt, "rows");
-    assert_eq!(rt; rows.len(), want.len());
+    assert!(rt; rows.len() == want.len());
     for (row, (ckpt, x, vec, got)) in rows.iter().zip(want) {
-        assert_eq!(rt;
-            (row.ckpt, row.x, row.vec.as_slice(), row.got.as_slice()),
-            (*ckpt, *x, vec.as_slice(), got.as_slice())
-        );
+        assert!(rt; row.ckpt == *ckpt && row.x == *x, "{x}");
+        assert!(rt; row.vec.as_slice() == vec.as_slice(), "{x}");
+        assert!(rt; row.got.as_slice() == got.as_slice(), "{x}");
     }
 }
 
 fn check_senders<S: Stable>(rt: &impl Abort, alloc: Global, store: &mut S, want: &[(u32, usize)]) {
     let senders = stored_senders(alloc, store, Pid::at(1), 3).expect(rt, "senders");
-    assert_eq!(rt; senders.len(), want.len());
+    assert!(rt; senders.len() == want.len());
     for ((x, from), wanted) in senders.iter().zip(want) {
-        assert_eq!(rt; (*x, from.index()), *wanted);
+        assert!(rt; *x == wanted.0 && from.index() == wanted.1, "{x}");
     }
 }
 
@@ -54,6 +53,7 @@ fn a_start_has_one_row(rt: HostRuntime) {
         &mut store,
         &[(true, 0, [0, 0, 0], [0, 0, 0])],
     );
+    drop(store);
 }
 
 // Two receipts from process 2, sent in its intervals 4 and 3, with one from process 0 between them; then a gap.
@@ -74,28 +74,36 @@ fn receipts_follow_without_a_gap(rt: HostRuntime) {
     check_rows(&rt, rt.alloc(), &mut store, &want);
     let senders = [(1, 2), (2, 0), (3, 2), (5, 2)];
     check_senders(&rt, rt.alloc(), &mut store, &senders);
+    drop(store);
 }
+
+// Puts the checkpoint of interval 1, and receipts on both sides of it.
+fn put_newest(rt: &impl Abort, alloc: Global, store: &mut MemStable) {
+    start(rt, alloc, store);
+    put(rt, alloc, store, 1, &receipt(1, 2, 4, 0));
+    let mut core = ProcCore::replay(alloc, store, 1).expect(rt, "a process");
+    core.checkpoint(alloc, store).expect(rt, "stored");
+    drop(core);
+    put(rt, alloc, store, 2, &receipt(2, 2, 5, 1));
+}
+
+static NEWEST: [Want; 4] = [
+    (true, 1, [0, 1, 4], [0, 0, 1]),
+    (false, 2, [0, 2, 5], [0, 0, 2]),
+    (true, 0, [0, 0, 0], [0, 0, 0]),
+    (false, 1, [0, 1, 4], [0, 0, 1]),
+];
 
 // From the newest checkpoint down, the receipt of its interval follows on the one before.
 #[test]
 fn the_newest_checkpoint_comes_first(rt: HostRuntime) {
-    let alloc = rt.alloc();
-    let mut store = MemStable::new(alloc);
-    start(&rt, alloc, &mut store);
-    put(&rt, alloc, &mut store, 1, &receipt(1, 2, 4, 0));
-    let mut core = ProcCore::replay(alloc, &mut store, 1).expect(&rt, "a process");
-    assert_eq!(rt; core.checkpoint(alloc, &mut store), Ok(()));
-    put(&rt, alloc, &mut store, 2, &receipt(2, 2, 5, 1));
-    let want = [
-        (true, 1, [0, 1, 4], [0, 0, 1]),
-        (false, 2, [0, 2, 5], [0, 0, 2]),
-        (true, 0, [0, 0, 0], [0, 0, 0]),
-        (false, 1, [0, 1, 4], [0, 0, 1]),
-    ];
-    check_rows(&rt, alloc, &mut store, &want);
-    assert_eq!(rt; store.prune(alloc, 1), Ok(()));
-    check_rows(&rt, alloc, &mut store, &want[..2]);
-    check_senders(&rt, alloc, &mut store, &[(2, 2)]);
+    let mut store = MemStable::new(rt.alloc());
+    put_newest(&rt, rt.alloc(), &mut store);
+    check_rows(&rt, rt.alloc(), &mut store, &NEWEST);
+    store.prune(rt.alloc(), 1).expect(&rt, "pruned");
+    check_rows(&rt, rt.alloc(), &mut store, &NEWEST[..2]);
+    check_senders(&rt, rt.alloc(), &mut store, &[(2, 2)]);
+    drop(store);
 }
 
 // What is stored at interval 1, and why it stands for no row and no sender.
@@ -127,21 +135,41 @@ static REFUSED: [([u8; 4], RowsFault, Option<RowsFault>); 5] = [
     ),
 ];
 
+// Why no rows and no senders are told.
+fn check_refused<S: Stable>(
+    rt: &impl Abort,
+    alloc: Global,
+    store: &mut S,
+    why: RowsFault,
+    sender: Option<RowsFault>,
+) {
+    check_no_rows(rt, alloc, store, (1, 3), why);
+    let senders = stored_senders(alloc, store, Pid::at(1), 3).err();
+    assert!(rt; senders == sender, "{senders:?}");
+}
+
+// Why no rows are told of this process of so many.
+fn check_no_rows<S: Stable>(
+    rt: &impl Abort,
+    alloc: Global,
+    store: &mut S,
+    (own, n): (u32, usize),
+    why: RowsFault,
+) {
+    let own = Pid::new(own).expect(rt, "the name of a process");
+    let rows = stored_rows(alloc, store, own, n).err();
+    assert!(rt; rows == Some(why), "{rows:?}");
+}
+
 #[test]
 fn records_that_are_refused(rt: HostRuntime) {
     for ([x, from, sent, number], why, sender) in &REFUSED {
+        let record = receipt(*x, *from, *sent, *number);
         let mut store = MemStable::new(rt.alloc());
         start(&rt, rt.alloc(), &mut store);
-        put(
-            &rt,
-            rt.alloc(),
-            &mut store,
-            1,
-            &receipt(*x, *from, *sent, *number),
-        );
-        let rows = stored_rows(rt.alloc(), &mut store, Pid::at(1), 3);
-        let senders = stored_senders(rt.alloc(), &mut store, Pid::at(1), 3);
-        assert_eq!(rt; (rows.err(), senders.err()), (Some(*why), *sender));
+        put(&rt, rt.alloc(), &mut store, 1, &record);
+        check_refused(&rt, rt.alloc(), &mut store, *why, *sender);
+        drop(store);
     }
 }
 
@@ -152,38 +180,53 @@ fn a_number_that_is_not_the_next(rt: HostRuntime) {
     start(&rt, rt.alloc(), &mut store);
     put(&rt, rt.alloc(), &mut store, 1, &receipt(1, 2, 0, 0));
     put(&rt, rt.alloc(), &mut store, 2, &receipt(2, 2, 0, 0));
-    let rows = stored_rows(rt.alloc(), &mut store, Pid::at(1), 3);
-    assert_eq!(rt; rows.err(), Some(RowsFault::Mismatch(2)));
+    let why = RowsFault::Mismatch(2);
+    check_no_rows(&rt, rt.alloc(), &mut store, (1, 3), why);
     check_senders(&rt, rt.alloc(), &mut store, &[(1, 2), (2, 2)]);
+    drop(store);
 }
+
+// Processes and numbers of processes that the store is not of.
+static OTHERS: [(u32, usize); 4] = [(0, 3), (2, 3), (1, 2), (1, 4)];
 
 // The store is another process's, or of another number of processes; or the receipt is another's.
 #[test]
 fn other_stores_are_refused(rt: HostRuntime) {
-    let mut store = MemStable::new(rt.alloc());
-    start(&rt, rt.alloc(), &mut store);
-    for (own, n) in [(0, 3), (2, 3), (1, 2), (1, 4)] {
-        let rows = stored_rows(rt.alloc(), &mut store, Pid::at(own), n);
-        assert_eq!(rt; rows.err(), Some(RowsFault::Damaged(0)));
+    let alloc = rt.alloc();
+    let mut store = MemStable::new(alloc);
+    start(&rt, alloc, &mut store);
+    for other in &OTHERS {
+        check_no_rows(&rt, alloc, &mut store, *other, RowsFault::Damaged(0));
     }
-    put(&rt, rt.alloc(), &mut store, 1, &RECEIPT);
-    let senders = stored_senders(rt.alloc(), &mut store, Pid::at(0), 3);
-    assert_eq!(rt; senders.err(), Some(RowsFault::Damaged(1)));
+    put(&rt, alloc, &mut store, 1, &RECEIPT);
+    let senders = stored_senders(alloc, &mut store, Pid::at(0), 3);
+    assert!(&rt; senders.err() == Some(RowsFault::Damaged(1)));
+    drop(store);
+}
+
+// A store right after its start, that stops behind so many calls.
+fn fused(rt: &impl Abort, alloc: Global, calls: u64) -> FuseStable<MemStable> {
+    let mut store = FuseStable::new(MemStable::new(alloc), calls);
+    start(rt, alloc, &mut store);
+    store
 }
 
 // A store that fails at its first or its second read.
 #[test]
-fn stores_that_fail(rt: HostRuntime) {
+fn rows_of_stores_that_fail(rt: HostRuntime) {
     for calls in [1, 2] {
-        let mut store = FuseStable::new(MemStable::new(rt.alloc()), calls);
-        start(&rt, rt.alloc(), &mut store);
-        let rows = stored_rows(rt.alloc(), &mut store, Pid::at(1), 3);
-        assert_eq!(rt; rows.err(), Some(RowsFault::Fault));
+        let mut store = fused(&rt, rt.alloc(), calls);
+        check_no_rows(&rt, rt.alloc(), &mut store, (1, 3), RowsFault::Fault);
+        drop(store);
     }
-    let mut store = FuseStable::new(MemStable::new(rt.alloc()), 1);
-    start(&rt, rt.alloc(), &mut store);
+}
+
+#[test]
+fn senders_of_stores_that_fail(rt: HostRuntime) {
+    let mut store = fused(&rt, rt.alloc(), 1);
     let senders = stored_senders(rt.alloc(), &mut store, Pid::at(1), 3);
-    assert_eq!(rt; senders.err(), Some(RowsFault::Fault));
+    assert!(&rt; senders.err() == Some(RowsFault::Fault));
+    drop(store);
 }
 
 // Kind, version, process, number of processes, extension, and the size and the image, the lowest byte first.

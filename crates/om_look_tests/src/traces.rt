@@ -80,4 +80,5 @@ fn lines_of_instructions_and_calls(rt: HostRuntime) {
     // At the end it traps, and there is no line more.
     check(&rt, rt.alloc(), &mut core, 100, REST, (12, false));
     check(&rt, rt.alloc(), &mut core, 100, "", (0, false));
+    drop(core);
 }

@@ -35,7 +35,9 @@ fn script_of(rt: &impl Abort, alloc: Global, file: &str) -> ClusterScript {
 // Returns what is said of these sights of the processes of FILE.
 fn said(rt: &impl Abort, alloc: Global, sights: &[Sight]) -> String {
     let script = script_of(rt, alloc, FILE);
-    waiting_text(alloc, &script, sights).expect(rt, "memory")
+    let text = waiting_text(alloc, &script, sights).expect(rt, "memory");
+    drop(script);
+    text
 }
 
 #[test]
@@ -82,6 +84,7 @@ fn those_that_trapped_are_named(rt: HostRuntime) {
     ];
     let script = script_of(&rt, rt.alloc(), FILE);
     let text = trapped_text(rt.alloc(), &script, &sights).expect(&rt, "memory");
+    drop(script);
     assert_eq!(rt;
         text.as_str(),
         "a: trapped 1, no instruction has the word at pc, at 00000044\n\
@@ -101,6 +104,7 @@ fn refused_sends_are_told(rt: HostRuntime) {
     sights[2].refused = 1;
     let script = script_of(&rt, rt.alloc(), FILE);
     let text = refused_sends_text(rt.alloc(), &script, &sights).expect(&rt, "memory");
+    drop(script);
     let wanted = "a: refused sends: 18446744073709551615\nc: refused sends: 1\n";
     assert_eq!(&rt; text.as_str(), wanted);
 }
@@ -118,7 +122,9 @@ fn said_of_kills(rt: &impl Abort, alloc: Global, failures: &[(u32, u32)]) -> Str
         came.push(failure).expect(rt, "memory");
     }
     let text = kills_left_text(alloc, &script, &came).expect(rt, "memory");
-    assert!(rt; has_kills_left(script.kills(), &came) == !text.is_empty());
+    let are_left = has_kills_left(script.kills(), &came);
+    drop(script);
+    assert!(rt; are_left == !text.is_empty());
     text
 }
 

@@ -438,39 +438,45 @@ fn with_more_memory(rt: &impl Abort, alloc: Global) -> Config {
 fn stores_of_another_cluster_are_refused(rt: HostRuntime) {
     let config = ring(&rt, rt.alloc(), 3, &[]);
     let shelf = stopped(&rt, rt.alloc(), &config, 60);
-    let fault = RunFault::AnotherCluster(Pid::at(0));
-    let two = ring(&rt, rt.alloc(), 2, &[]);
-    assert_refused(&rt, rt.alloc(), &two, &shelf, &fault);
-    drop(two);
     drop(config);
+    let two = ring(&rt, rt.alloc(), 2, &[]);
+    assert_another(&rt, rt.alloc(), two, &shelf);
     let greater = with_more_memory(&rt, rt.alloc());
-    assert_refused(&rt, rt.alloc(), &greater, &shelf, &fault);
-    drop(greater);
+    assert_another(&rt, rt.alloc(), greater, &shelf);
     drop(shelf);
 }
 
-// A receipt that is none stands behind all that process 2 stored.
+// The stores are those of another cluster.
+fn assert_another<R: Threads + Wait + Clock + Abort + Sync>(
+    rt: &R,
+    alloc: Global,
+    config: Config,
+    shelf: &Shelf,
+) {
+    let fault = RunFault::AnotherCluster(Pid::at(0));
+    assert_refused(rt, alloc, &config, shelf, &fault);
+    drop(config);
+}
+
+// Puts a receipt that is none behind all that process 2 stored.
+fn put_none(rt: &impl Abort, alloc: Global, shelf: &Shelf) {
+    let mut record = Vec::new(alloc);
+    let none = Vec::from_slice(alloc, b"none").expect(rt, "memory");
+    record.push(none).expect(rt, "memory");
+    let store = shelf.stores.get(2).expect(rt, "a store");
+    let mut open = store.try_lock().expect(rt, "a store");
+    let put = open.put_receipts(alloc, 100, &record);
+    drop(open);
+    assert!(rt; put.is_ok());
+}
+
 #[test]
 fn a_damaged_store_is_refused(rt: HostRuntime) {
     let config = ring(&rt, rt.alloc(), 3, &[]);
     let shelf = stopped(&rt, rt.alloc(), &config, 60);
-    let store = shelf.stores.get(2).expect(&rt, "a store");
-    let mut record = Vec::new(rt.alloc());
-    record
-        .push(Vec::from_slice(rt.alloc(), b"none").expect(&rt, "memory"))
-        .expect(&rt, "memory");
-    let mut open = store.try_lock().expect(&rt, "a store");
-    let put = open.put_receipts(rt.alloc(), 100, &record);
-    drop(open);
-    drop(record);
-    assert!(&rt; put.is_ok());
-    assert_refused(
-        &rt,
-        rt.alloc(),
-        &config,
-        &shelf,
-        &RunFault::Fault(Pid::at(2)),
-    );
+    put_none(&rt, rt.alloc(), &shelf);
+    let fault = RunFault::Fault(Pid::at(2));
+    assert_refused(&rt, rt.alloc(), &config, &shelf, &fault);
     drop(shelf);
     drop(config);
 }

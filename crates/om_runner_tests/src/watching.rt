@@ -127,13 +127,21 @@ fn assert_ring_is_seen<R: Threads + Wait + Clock + Abort + Sync>(
     let (fault, sights) = seen(rt, alloc, &config);
     drop(config);
     assert!(rt; fault.is_none());
+    assert_ends_of_ring(rt, &sights);
+    assert_front(rt, &sights, rounds);
+}
+
+fn assert_ends_of_ring(rt: &impl Abort, sights: &[Sight]) {
     assert!(rt; sights.len() == 8);
     for (p, sight) in sights.iter().enumerate() {
         assert!(rt; is_end_of_ring(sight, p as u32), "{p} {sight:?}");
     }
-    let front = Progress::of(&sights).front.expect(rt, "a front");
-    assert!(rt; front.round == rounds, "{front:?}");
-    assert!(rt; front.vec.as_slice() == [6; 8].as_slice(), "{front:?}");
+}
+
+fn assert_front(rt: &impl Abort, sights: &[Sight], rounds: u32) {
+    let front = Progress::of(sights).front.expect(rt, "a front");
+    let is_right = front.round == rounds && front.vec.as_slice() == [6; 8].as_slice();
+    assert!(rt; is_right, "{front:?}");
 }
 
 #[test]
@@ -150,15 +158,9 @@ fn assert_trap(
     (interval, count, pc): (u32, u64, u32),
 ) {
     let sight = sight.expect(rt, "a sight");
-    assert!(rt;
-        sight.doing == Doing::Up(Status::Trapped(cause)),
-        "{sight:?}"
-    );
-    assert!(rt;
-        sight.interval == interval && sight.count == count,
-        "{sight:?}"
-    );
-    assert!(rt; sight.pc == pc, "{sight:?}");
+    let is_right = sight.doing == Doing::Up(Status::Trapped(cause))
+        && (sight.interval, sight.count, sight.pc) == (interval, count, pc);
+    assert!(rt; is_right, "{sight:?}");
 }
 
 // The instruction that traps is not finished: pc is its address.
@@ -166,13 +168,23 @@ fn assert_trap(
 fn where_a_process_trapped_is_seen(rt: HostRuntime) {
     let alloc = rt.alloc();
     let breaks = cluster(&rt, alloc, (1, &BREAKS), &[], u64::MAX);
-    let (fault, sights) = seen(&rt, alloc, &breaks);
-    assert!(&rt; fault.is_none());
+    let sights = seen_to_end(&rt, alloc, breaks);
     assert_trap(&rt, sights.first(), Cause::Break, (0, 2, 12));
     let faults = cluster(&rt, alloc, (2, &FAULTS), &[], u64::MAX);
-    let (fault, sights) = seen(&rt, alloc, &faults);
-    assert!(&rt; fault.is_none());
+    let sights = seen_to_end(&rt, alloc, faults);
     assert_trap(&rt, sights.get(1), Cause::DataOutside, (1, 7, 56));
+}
+
+// What was seen of the processes of a cluster whose run came to its end.
+fn seen_to_end<R: Threads + Wait + Clock + Abort + Sync>(
+    rt: &R,
+    alloc: Global,
+    config: Config,
+) -> Vec<Sight> {
+    let (fault, sights) = seen(rt, alloc, &config);
+    drop(config);
+    assert!(rt; fault.is_none());
+    sights
 }
 
 // Sends 257 bytes to process 0, then, as x10 says that it was refused, to process 2^32 - 1, and ends.
@@ -187,16 +199,26 @@ fn sends_that_are_refused_are_seen(rt: HostRuntime) {
     let mut refused = cluster(&rt, alloc, (2, &REFUSED), &[], u64::MAX);
     for fuel in [1, 1000] {
         refused.fuel = fuel;
-        let (fault, sights) = seen(&rt, alloc, &refused);
-        assert!(&rt; fault.is_none());
-        assert!(&rt; sights.len() == 2);
-        for sight in &sights {
-            assert!(&rt; sight.refused == 2 && sight.count == 5, "{sight:?}");
-        }
+        assert_two_refused(&rt, alloc, &refused);
     }
+    drop(refused);
     let breaks = cluster(&rt, alloc, (1, &BREAKS), &[], u64::MAX);
     let (_, sights) = seen(&rt, alloc, &breaks);
+    drop(breaks);
     assert!(&rt; sights.first().is_some_and(|sight| sight.refused == 0));
+}
+
+// Of each of two processes two sends were refused.
+fn assert_two_refused<R: Threads + Wait + Clock + Abort + Sync>(
+    rt: &R,
+    alloc: Global,
+    config: &Config,
+) {
+    let (fault, sights) = seen(rt, alloc, config);
+    assert!(rt; fault.is_none() && sights.len() == 2);
+    for sight in &sights {
+        assert!(rt; sight.refused == 2 && sight.count == 5, "{sight:?}");
+    }
 }
 
 // Returns whether this failure is one of these.

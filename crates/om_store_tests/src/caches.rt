@@ -39,14 +39,17 @@ fn put_receipt<S: Stable>(
     store.put_receipts(alloc, x, &recs)
 }
 
+static THREE_RECEIPTS: [(u32, &[u8]); 3] = [(1, ONE), (2, TWO), (3, THREE)];
+
 // Receipts 1 to 3 and checkpoint 0.
 fn filled(rt: &impl Abort, alloc: Global) -> MemLedger {
     let mut store = MemLedger::new(alloc);
-    for (x, bytes) in [(1u32, ONE), (2, TWO), (3, THREE)] {
-        let put = put_receipt(rt, alloc, &mut store, x, bytes);
-        assert_eq!(rt; put, Ok(()));
+    for (x, bytes) in &THREE_RECEIPTS {
+        let put = put_receipt(rt, alloc, &mut store, *x, bytes);
+        put.expect(rt, "stored");
     }
-    assert_eq!(rt; store.put_checkpoint(alloc, 0, b"zero"), Ok(()));
+    let put = store.put_checkpoint(alloc, 0, b"zero");
+    put.expect(rt, "stored");
     store
 }
 
@@ -65,12 +68,13 @@ fn check(
     (after, to): (u32, u32),
     want: &[(u32, &[u8])],
 ) {
-    let Ok(found) = store.receipts(alloc, after, to) else {
-        panic!(rt; "not read");
-    };
-    assert_eq!(rt; found.len(), want.len());
+    let found = store.receipts(alloc, after, to).expect(rt, "receipts");
+    assert!(rt; found.len() == want.len());
     for ((x, bytes), (number, rec)) in found.iter().zip(want) {
-        assert_eq!(rt; (*x, bytes.as_slice()), (*number, *rec));
+        assert!(rt;
+            *x == *number && bytes.as_slice() == *rec,
+            "receipt {number}"
+        );
     }
 }
 
@@ -78,29 +82,36 @@ fn check(
 fn check_stopped(rt: &impl Abort, alloc: Global, store: &mut Cached, (after, to): (u32, u32)) {
     let found = store.receipts(alloc, after, to);
     assert!(rt; matches!(found, Err(StoreError::Fault)));
-    assert_eq!(rt; store.failures(), 1);
+    assert!(rt; store.failures() == 1);
 }
 
 const ALL: (u32, u32) = (0, u32::MAX);
+
+// To where the second reading asks, and what it answers.
+static SECOND: [(u32, &[(u32, &[u8])]); 5] = [
+    (0, &[]),
+    (1, &[(1, ONE)]),
+    (2, &[(1, ONE), (2, TWO)]),
+    (3, &[(1, ONE), (2, TWO), (3, THREE)]),
+    (u32::MAX, &[(1, ONE), (2, TWO), (3, THREE)]),
+];
+
+// All is read.
+fn check_all(rt: &impl Abort, alloc: Global, store: &mut Cached) {
+    check(rt, alloc, store, ALL, &THREE_RECEIPTS);
+}
 
 // The second reading, up to where it asks, and the third, which is read anew.
 #[test]
 fn a_second_reading_is_answered_from_the_first(rt: HostRuntime) {
     let alloc = rt.alloc();
-    let all: &[(u32, &[u8])] = &[(1, ONE), (2, TWO), (3, THREE)];
-    let rows: [(u32, &[(u32, &[u8])]); 5] = [
-        (0, &[]),
-        (1, &[(1, ONE)]),
-        (2, &[(1, ONE), (2, TWO)]),
-        (3, all),
-        (u32::MAX, all),
-    ];
-    for (to, want) in rows {
+    for (to, want) in &SECOND {
         let mut store = cached(&rt, alloc, 1);
-        check(&rt, alloc, &mut store, ALL, all);
-        check(&rt, alloc, &mut store, (0, to), want);
+        check_all(&rt, alloc, &mut store);
+        check(&rt, alloc, &mut store, (0, *to), want);
         check_stopped(&rt, alloc, &mut store, ALL);
-        check(&rt, alloc, &mut store, ALL, all);
+        check_all(&rt, alloc, &mut store);
+        drop(store);
     }
 }
 
@@ -113,6 +124,7 @@ fn other_readings_are_read_anew(rt: HostRuntime) {
         check(&rt, alloc, &mut store, (1, 3), &[(2, TWO), (3, THREE)]);
         check_stopped(&rt, alloc, &mut store, other);
         check(&rt, alloc, &mut store, (1, 2), &[(2, TWO)]);
+        drop(store);
     }
 }
 
@@ -134,7 +146,7 @@ fn make_change(rt: &impl Abort, alloc: Global, store: &mut Cached, change: Chang
         Change::Prune => store.prune(alloc, 1),
         Change::Shed => shed(alloc, store),
     };
-    assert_eq!(rt; done, Ok(()));
+    done.expect(rt, "changed");
 }
 
 fn shed(alloc: Global, store: &mut Cached) -> Result<(), StoreError> {
@@ -153,42 +165,48 @@ fn shed(alloc: Global, store: &mut Cached) -> Result<(), StoreError> {
     store.put_batch(alloc, &batch)
 }
 
+// A change, and what is read behind it.
+static CHANGES: [(Change, &[(u32, &[u8])]); 5] = [
+    (
+        Change::PutReceipt,
+        &[(1, ONE), (2, TWO), (3, THREE), (4, FOUR)],
+    ),
+    (Change::PutCheckpoint, &[(1, ONE), (2, TWO), (3, THREE)]),
+    (Change::Cut, &[(1, ONE)]),
+    (Change::Prune, &[(2, TWO), (3, THREE)]),
+    (Change::Shed, &[(3, THREE)]),
+];
+
 // Behind a change nothing that was read before is handed out.
 #[test]
 fn a_change_spends_what_was_read(rt: HostRuntime) {
     let alloc = rt.alloc();
-    let rows: [(Change, &[(u32, &[u8])]); 5] = [
-        (
-            Change::PutReceipt,
-            &[(1, ONE), (2, TWO), (3, THREE), (4, FOUR)],
-        ),
-        (Change::PutCheckpoint, &[(1, ONE), (2, TWO), (3, THREE)]),
-        (Change::Cut, &[(1, ONE)]),
-        (Change::Prune, &[(2, TWO), (3, THREE)]),
-        (Change::Shed, &[(3, THREE)]),
-    ];
-    for (what, want) in rows {
+    for (what, want) in &CHANGES {
         let mut store = cached(&rt, alloc, 2);
-        check(
-            &rt,
-            alloc,
-            &mut store,
-            ALL,
-            &[(1, ONE), (2, TWO), (3, THREE)],
-        );
-        make_change(&rt, alloc, &mut store, what);
+        check_all(&rt, alloc, &mut store);
+        make_change(&rt, alloc, &mut store, *what);
         check_stopped(&rt, alloc, &mut store, ALL);
         check(&rt, alloc, &mut store, ALL, want);
+        drop(store);
     }
 }
 
-// Asserts what is read of the table of what the store is of.
+// Puts one record into the table of what the store is of, and reads it.
 fn check_about(rt: &impl Abort, alloc: Global, store: &mut Cached) {
+    let recs = record(rt, alloc, b"about");
+    let put = store.put_in(alloc, LedgerTable::About, 0, &recs);
+    put.expect(rt, "stored");
     let about = store.all_in(alloc, LedgerTable::About).expect(rt, "read");
-    assert_eq!(rt; about.len(), 1);
+    assert!(rt; about.len() == 1);
     for (number, bytes) in &about {
-        assert_eq!(rt; (*number, bytes.as_slice()), (0, b"about".as_slice()));
+        assert!(rt; *number == 0 && bytes.as_slice() == b"about".as_slice());
     }
+}
+
+// Looks at the newest checkpoint up to 3.
+fn check_newest(rt: &impl Abort, alloc: Global, store: &mut Cached) {
+    let checkpoint = store.effective(alloc, 3).expect(rt, "read");
+    assert!(rt; checkpoint.map(|(x, _)| x) == Some(0));
 }
 
 // What changes no record spends nothing: a table of the ledger, and looks.
@@ -196,18 +214,10 @@ fn check_about(rt: &impl Abort, alloc: Global, store: &mut Cached) {
 fn other_calls_leave_what_was_read(rt: HostRuntime) {
     let alloc = rt.alloc();
     let mut store = cached(&rt, alloc, 4);
-    check(
-        &rt,
-        alloc,
-        &mut store,
-        ALL,
-        &[(1, ONE), (2, TWO), (3, THREE)],
-    );
-    let recs = record(&rt, alloc, b"about");
-    assert_eq!(rt; store.put_in(alloc, LedgerTable::About, 0, &recs), Ok(()));
+    check_all(&rt, alloc, &mut store);
     check_about(&rt, alloc, &mut store);
-    let checkpoint = store.effective(alloc, 3).expect(&rt, "read");
-    assert_eq!(rt; checkpoint.map(|(x, _)| x), Some(0));
+    check_newest(&rt, alloc, &mut store);
     check(&rt, alloc, &mut store, (0, 1), &[(1, ONE)]);
     check_stopped(&rt, alloc, &mut store, ALL);
+    drop(store);
 }

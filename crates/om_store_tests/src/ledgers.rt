@@ -229,15 +229,12 @@ fn check_table<S: Ledger>(
     table: LedgerTable,
     want: &[u64],
 ) {
-    let Ok(found) = store.all_in(alloc, table) else {
-        panic!(rt; "not read");
-    };
-    assert_eq!(rt; found.len(), want.len());
+    let found = store.all_in(alloc, table).expect(rt, "a table");
+    assert!(rt; found.len() == want.len());
     for ((x, bytes), number) in found.iter().zip(want) {
-        assert_eq!(rt;
-            (*x, bytes.as_slice()),
-            (*number, record_at(table, *x).as_slice())
-        );
+        assert!(rt; *x == *number, "record {number}");
+        let is_whole = bytes.as_slice() == record_at(table, *x).as_slice();
+        assert!(rt; is_whole, "record {number}");
     }
 }
 
@@ -254,16 +251,32 @@ fn checkpoints<S: Ledger>(alloc: Global, store: &mut S) -> (Option<u32>, Option<
     (low.map(|(x, _)| x), high.map(|(x, _)| x))
 }
 
+// Makes a call of a row.
+fn check_made<S: Ledger>(
+    rt: &impl Abort,
+    alloc: Global,
+    store: &mut S,
+    call: Call,
+    (i, want): (usize, Result<(), StoreError>),
+) {
+    let got = made(rt, alloc, store, call);
+    assert!(rt; got == want, "row {i}: {got:?}");
+}
+
+// The checkpoints behind a row.
+fn check_checkpoints<S: Ledger>(rt: &impl Abort, alloc: Global, store: &mut S, i: usize) {
+    let low = if i < UNPRUNED { Some(0) } else { None };
+    assert!(rt; checkpoints(alloc, store) == (low, Some(2)), "row {i}");
+}
+
 // Plays the rows: a call that is refused leaves all as it was.
 fn play<S: Ledger>(rt: &impl Abort, alloc: Global, store: &mut S) {
-    assert_eq!(rt; fill(alloc, store), Ok(()));
+    fill(alloc, store).expect(rt, "stored");
     for (i, (call, want, outputs, senders)) in ROWS.iter().enumerate() {
-        let got = made(rt, alloc, store, *call);
-        assert_eq!(rt; got, *want, "row {i}");
+        check_made(rt, alloc, store, *call, (i, *want));
         check_table(rt, alloc, store, LedgerTable::Outputs, outputs);
         check_table(rt, alloc, store, LedgerTable::Senders, senders);
-        let low = if i < UNPRUNED { Some(0) } else { None };
-        assert_eq!(rt; checkpoints(alloc, store), (low, Some(2)), "row {i}");
+        check_checkpoints(rt, alloc, store, i);
     }
     check_table(rt, alloc, store, LedgerTable::About, &[0]);
 }
@@ -272,63 +285,61 @@ fn play<S: Ledger>(rt: &impl Abort, alloc: Global, store: &mut S) {
 fn ledgers_in_memory(rt: HostRuntime) {
     let mut store = MemLedger::new(rt.alloc());
     play(&rt, rt.alloc(), &mut store);
+    drop(store);
 }
 
 #[test]
 fn ledgers_behind_a_cache(rt: HostRuntime) {
     let mut store = CachingLedger::new(MemLedger::new(rt.alloc()));
     play(&rt, rt.alloc(), &mut store);
+    drop(store);
+}
+
+// A put, an unlike batch and a reading, of which the fuse stops one: each that is, and which outputs are there then.
+static STOPPED: [(u64, [bool; 3], &[u64]); 4] = [
+    (0, [true, false, false], &[2]),
+    (1, [false, true, false], &[0, 1]),
+    (2, [false, false, true], &[0, 1, 2]),
+    (3, [false, false, false], &[]),
+];
+
+const PUT: Call = Call::Put(LedgerTable::Outputs, 0, 2);
+
+// Returns which of the three calls are refused.
+fn stopped<S: Ledger>(rt: &impl Abort, alloc: Global, store: &mut S) -> [bool; 3] {
+    let put = made(rt, alloc, store, PUT).is_err();
+    let shed = made(rt, alloc, store, Call::Shed(0, (2, 1), (0, 1))).is_err();
+    let read = store.all_in(alloc, LedgerTable::Outputs).is_err();
+    [put, shed, read]
 }
 
 // A fuse stops one call of any kind, which leaves all as it was.
 #[test]
 fn ledgers_behind_a_fuse(rt: HostRuntime) {
-    for calls in 0..4u64 {
-        let mut store = FuseStable::new(MemLedger::new(rt.alloc()), calls);
-        let answers = [
-            made(
-                &rt,
-                rt.alloc(),
-                &mut store,
-                Call::Put(LedgerTable::Outputs, 0, 2),
-            ),
-            made(&rt, rt.alloc(), &mut store, Call::Shed(0, (2, 1), (0, 1))),
-        ];
-        let read = store.all_in(rt.alloc(), LedgerTable::Outputs).is_err();
-        let stopped = (answers[0].is_err(), answers[1].is_err(), read);
-        assert_eq!(rt; stopped, (calls == 0, calls == 1, calls == 2));
-        assert_eq!(rt; store.failures(), u64::from(calls < 3));
-        let outputs: &[u64] = match calls {
-            0 => &[2],
-            1 => &[0, 1],
-            _ => &[0, 1, 2],
-        };
-        if calls < 3 {
-            check_table(&rt, rt.alloc(), &mut store, LedgerTable::Outputs, outputs);
+    let alloc = rt.alloc();
+    for (calls, wanted, outputs) in &STOPPED {
+        let mut store = FuseStable::new(MemLedger::new(alloc), *calls);
+        let found = stopped(&rt, alloc, &mut store);
+        assert!(&rt; found.as_slice() == wanted.as_slice(), "{calls}");
+        assert!(&rt; store.failures() == u64::from(*calls < 3), "{calls}");
+        if *calls < 3 {
+            check_table(&rt, alloc, &mut store, LedgerTable::Outputs, outputs);
         }
+        drop(store);
     }
 }
 
 // A store that keeps nothing passes over what it is given, and is pruned.
 #[test]
 fn nothing_is_kept_without_a_ledger(rt: HostRuntime) {
-    let mut store = MemStable::new(rt.alloc());
-    assert_eq!(rt; fill(rt.alloc(), &mut store), Ok(()));
-    let put = made(
-        &rt,
-        rt.alloc(),
-        &mut store,
-        Call::Put(LedgerTable::Outputs, 0, 2),
-    );
-    let again = made(
-        &rt,
-        rt.alloc(),
-        &mut store,
-        Call::Put(LedgerTable::Outputs, 0, 2),
-    );
-    let pruned = made(&rt, rt.alloc(), &mut store, Call::Shed(2, (0, 1), (0, 1)));
-    assert_eq!(rt; (put, again, pruned), (Ok(()), Ok(()), Ok(())));
-    check_table(&rt, rt.alloc(), &mut store, LedgerTable::Outputs, &[]);
-    check_table(&rt, rt.alloc(), &mut store, LedgerTable::Senders, &[]);
-    assert_eq!(rt; checkpoints(rt.alloc(), &mut store), (None, Some(2)));
+    let alloc = rt.alloc();
+    let mut store = MemStable::new(alloc);
+    fill(alloc, &mut store).expect(&rt, "stored");
+    for call in [PUT, PUT, Call::Shed(2, (0, 1), (0, 1))] {
+        made(&rt, alloc, &mut store, call).expect(&rt, "passed over");
+    }
+    check_table(&rt, alloc, &mut store, LedgerTable::Outputs, &[]);
+    check_table(&rt, alloc, &mut store, LedgerTable::Senders, &[]);
+    assert!(&rt; checkpoints(alloc, &mut store) == (None, Some(2)));
+    drop(store);
 }

@@ -1,14 +1,12 @@
 //! The same over the bytes of a database's file and of its log, as a run leaves them. Counts and places are those of the six instructions.
 
-ghost use Rattle.std.specs.Prelude.{◌≡◌, false};
-
 use crate::packets::{WHERE, asked, lines_of};
 use crate::stores::fill;
 use om_commands::CommandError;
 use om_copies::DatabaseBytes;
 use om_stored_debug::debug_in;
 use om_tables::{SqlLedger, SqlStable};
-use sqlite::{Connection, FileStore, Files};
+use sqlite::{Alter, Connection, FileStore, Files};
 use sqlite_disk::Memory;
 use std::alloc::Global;
 use std::process::Abort;
@@ -25,9 +23,7 @@ fn no_bytes(alloc: Global) -> DatabaseBytes {
 }
 
 #[inline(never)]
-fn new_database(rt: &impl Abort, alloc: Global) -> Connection<FileStore<Memory>>
-    ensures { result.in_transaction ≡ false }
-{
+fn new_database(rt: &impl Abort, alloc: Global) -> Connection<FileStore<Memory>> {
     no_bytes(alloc).open(alloc).expect(rt, "a database")
 }
 
@@ -38,32 +34,57 @@ fn bytes_of(rt: &impl Abort, alloc: Global, files: &Files<Memory>) -> DatabaseBy
     }
 }
 
-// The store of two tables with three receipts, as a run leaves it that ends well.
+// Makes a store of two tables with three receipts. What is made of a database is generic over what it lies in: each call at files is dear
+// to prove.
 #[inline(never)]
-fn two_tables(rt: &impl Abort, alloc: Global) -> DatabaseBytes {
-    match SqlStable::create(alloc, new_database(rt, alloc)) {
+fn with_two_tables<S: Alter + Drop>(
+    rt: &impl Abort,
+    alloc: Global,
+    conn: Connection<S>,
+) -> Connection<S> {
+    assert!(rt; conn.is_autocommit());
+    match SqlStable::create(alloc, conn) {
         Ok(mut store) => {
             fill(rt, alloc, &mut store, &[1, 2, 3]);
-            match store.into_connection().close_files() {
-                Ok(files) => bytes_of(rt, alloc, &files),
-                Err((error, _store)) => panic!(rt; "{error:?}"),
-            }
+            store.into_connection()
         }
         Err((error, _conn)) => panic!(rt; "{error:?}"),
     }
 }
 
-// The store of five tables with three receipts, as a run leaves it that was killed: what it wrote last stands in the log.
+// Makes a store of five tables with three receipts.
 #[inline(never)]
-fn five_tables(rt: &impl Abort, alloc: Global) -> DatabaseBytes {
-    match SqlLedger::take_up(alloc, new_database(rt, alloc)) {
+fn with_five_tables<S: Alter + Drop>(
+    rt: &impl Abort,
+    alloc: Global,
+    conn: Connection<S>,
+) -> Connection<S> {
+    assert!(rt; conn.is_autocommit());
+    match SqlLedger::take_up(alloc, conn) {
         Ok(mut store) => {
             fill(rt, alloc, &mut store, &[1, 2, 3]);
-            let files = store.into_connection().into_store().close();
-            bytes_of(rt, alloc, &files)
+            store.into_connection()
         }
         Err((error, _conn)) => panic!(rt; "{error:?}"),
     }
+}
+
+// The store of two tables, as a run leaves it that ends well.
+#[inline(never)]
+fn two_tables(rt: &impl Abort, alloc: Global) -> DatabaseBytes {
+    let conn = with_two_tables(rt, alloc, new_database(rt, alloc));
+    match conn.close_files() {
+        Ok(files) => bytes_of(rt, alloc, &files),
+        Err((error, _store)) => panic!(rt; "{error:?}"),
+    }
+}
+
+// The store of five tables, as a run leaves it that was killed: what it wrote last stands in the log.
+#[inline(never)]
+fn five_tables(rt: &impl Abort, alloc: Global) -> DatabaseBytes {
+    let conn = with_five_tables(rt, alloc, new_database(rt, alloc));
+    let files = conn.into_store().close();
+    bytes_of(rt, alloc, &files)
 }
 
 fn check(rt: &impl Abort, alloc: Global, bytes: &DatabaseBytes) {

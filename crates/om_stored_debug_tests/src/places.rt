@@ -38,6 +38,7 @@ fn at_the_end(rt: HostRuntime) {
         &[WHERE, "$m40,4#31", "$vCont;c#a8", WHERE],
         "OK\nevent 6 of 7: run 1 5, 0 instructions done\nprocess 1: ready, 16 instructions\n\n03000000\nT05thread:1;replaylog:end;\nevent 7 of 7\nprocess 1: waiting, 21 instructions\n\nOK\n",
     );
+    drop(store);
 }
 
 // At an interval before it; then back to the begin, a step forward, and on to the end.
@@ -63,6 +64,7 @@ fn at_an_interval(rt: HostRuntime) {
         ],
         "OK\nevent 4 of 7: run 1 5, 0 instructions done\nprocess 1: ready, 10 instructions\n\n02000000\n   0 run 1 3\n   1 give 1 1\n   2 run 1 5\n   3 give 1 2\n=> 4 run 1 5\n   5 give 1 3\n   6 run 1 5\n\nT05thread:1;\n01000000\nT05thread:1;replaylog:begin;\nevent 0 of 7: run 1 3, 0 instructions done\nprocess 1: ready, 0 instructions\n\nT05thread:1;replaylog:end;\n03000000\nOK\n",
     );
+    drop(store);
 }
 
 // A receipt is missing behind the first: what lies behind the gap is not shown, and asked for it is refused.
@@ -81,15 +83,22 @@ fn a_gap(rt: HostRuntime) {
     assert!(&rt;
         open_store(alloc, &mut store, Some(3)).err() == Some(CommandError::MissingReceipt(2))
     );
+    drop(store);
 }
 
-// From the checkpoint at or below the interval; and from the begin over the later one.
+// The store with the receipts 1 to 3, and with the checkpoint of interval 2.
+fn with_a_checkpoint(rt: &impl Abort, alloc: Global) -> MemStable {
+    let mut from = received(rt, alloc, &[1, 2, 3]);
+    let mut store = received(rt, alloc, &[1, 2, 3]);
+    add_checkpoint(rt, alloc, &mut store, &mut from, 2);
+    store
+}
+
+// From the checkpoint at or below the interval.
 #[test]
-fn two_checkpoints(rt: HostRuntime) {
+fn from_the_later_checkpoint(rt: HostRuntime) {
     let alloc = rt.alloc();
-    let mut from = received(&rt, alloc, &[1, 2, 3]);
-    let mut store = received(&rt, alloc, &[1, 2, 3]);
-    add_checkpoint(&rt, alloc, &mut store, &mut from, 2);
+    let mut store = with_a_checkpoint(&rt, alloc);
     check(
         &rt,
         alloc,
@@ -98,6 +107,13 @@ fn two_checkpoints(rt: HostRuntime) {
         &[WHERE, "$bc#c5", WHERE],
         "OK\nevent 2 of 3: run 1 5, 0 instructions done\nprocess 1: ready, 16 instructions\n\nT05thread:1;replaylog:begin;\nevent 0 of 3: run 1 5, 0 instructions done\nprocess 1: ready, 10 instructions\n\nOK\n",
     );
+}
+
+// From the begin over the later one.
+#[test]
+fn over_the_later_checkpoint(rt: HostRuntime) {
+    let alloc = rt.alloc();
+    let mut store = with_a_checkpoint(&rt, alloc);
     check(
         &rt,
         alloc,
@@ -115,4 +131,5 @@ fn an_empty_store(rt: HostRuntime) {
     let mut store = MemStable::new(alloc);
     assert!(&rt; open_store(alloc, &mut store, None).err() == Some(CommandError::NoCheckpoint));
     assert!(&rt; open_store(alloc, &mut store, Some(0)).err() == Some(CommandError::NoCheckpoint));
+    drop(store);
 }

@@ -56,8 +56,8 @@ pub(crate) fn receipt(x: u8) -> [u8; 30] {
     ]
 }
 
-// Starts process 1 of 3 over a store, and puts the receipts of these intervals.
-pub(crate) fn fill<S: Stable>(rt: &impl Abort, alloc: Global, store: &mut S, intervals: &[u8]) {
+// Starts process 1 of 3 over a store.
+fn start<S: Stable>(rt: &impl Abort, alloc: Global, store: &mut S) {
     let mut image = Vec::new(alloc);
     for word in &RECEIVES {
         image
@@ -66,12 +66,23 @@ pub(crate) fn fill<S: Stable>(rt: &impl Abort, alloc: Global, store: &mut S, int
     }
     let core = ProcCore::start(alloc, &image, 128, Ext::I, Pid::at(1), 3, store);
     assert!(rt; core.is_ok());
+    drop(core);
+}
+
+fn put<S: Stable>(rt: &impl Abort, alloc: Global, store: &mut S, x: u8) {
+    let bytes = Vec::from_slice(alloc, &receipt(x)).expect(rt, "memory");
+    let mut receipts = Vec::new(alloc);
+    receipts.push(bytes).expect(rt, "memory");
+    assert!(rt; receipts.len() == 1);
+    let put = store.put_receipts(alloc, u32::from(x), &receipts);
+    put.expect(rt, "stored");
+}
+
+// Starts process 1 of 3 over a store, and puts the receipts of these intervals.
+pub(crate) fn fill<S: Stable>(rt: &impl Abort, alloc: Global, store: &mut S, intervals: &[u8]) {
+    start(rt, alloc, store);
     for x in intervals {
-        let receipt = Vec::from_slice(alloc, &receipt(*x)).expect(rt, "memory");
-        let mut receipts = Vec::new(alloc);
-        receipts.push(receipt).expect(rt, "memory");
-        assert!(rt; receipts.len() == 1);
-        assert_eq!(rt; store.put_receipts(alloc, u32::from(*x), &receipts), Ok(()));
+        put(rt, alloc, store, *x);
     }
 }
 
@@ -91,5 +102,6 @@ pub(crate) fn add_checkpoint(
     x: u32,
 ) {
     let mut core = ProcCore::replay(alloc, from, x).expect(rt, "a process");
-    assert_eq!(rt; core.checkpoint(alloc, store), Ok(()));
+    core.checkpoint(alloc, store).expect(rt, "stored");
+    drop(core);
 }

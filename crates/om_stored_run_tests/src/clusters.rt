@@ -117,7 +117,7 @@ fn check_replay<S: Stable>(rt: &impl Abort, alloc: Global, store: &mut S, counte
         rt, "memory",
     );
     let is_there = text.starts_with("interval 6\n") && text.contains(line.as_str());
-    assert_eq!(rt; (told, is_there), (Ok(()), true), "{counter}");
+    assert!(rt; told == Ok(()) && is_there, "{counter}");
 }
 
 // Runs a cluster over stores that are made so, and gives the report with the stores as they stand when it has ended.
@@ -162,7 +162,7 @@ fn are_outputs(outputs: &[Output], last: u32) -> bool {
 
 // The outputs and the codes of the ring: each process puts out one more than what comes, and ends with the last of them.
 fn check_report(rt: &impl Abort, report: &Report) {
-    assert_eq!(rt; (report.released.len(), report.statuses.len()), (8, 8));
+    assert!(rt; report.released.len() == 8 && report.statuses.len() == 8);
     for (outputs, counter) in report.released.iter().zip(&COUNTERS) {
         assert!(rt; are_outputs(outputs, *counter + 1), "{counter}");
     }
@@ -173,7 +173,7 @@ fn check_report(rt: &impl Abort, report: &Report) {
 
 // Replays each of the stores.
 fn check_replays<S: Stable>(rt: &impl Abort, alloc: Global, stores: &mut [S]) {
-    assert_eq!(rt; stores.len(), 8);
+    assert!(rt; stores.len() == 8);
     for (store, counter) in stores.iter_mut().zip(&COUNTERS) {
         check_replay(rt, alloc, store, *counter);
     }
@@ -191,11 +191,12 @@ fn check_ring<R: Threads + Wait + Clock + Abort + Sync, C: Connects + Sync + Dro
             check_report(rt, &report);
             drop(report);
             check_replays(rt, alloc, &mut stores);
+            drop(stores);
             None
         }
         Err(fault) => Some(fault),
     };
-    assert_eq!(rt; told, fault);
+    assert!(rt; told == fault, "{told:?}");
 }
 
 // A store that holds something is refused.

@@ -76,7 +76,22 @@ fn carry_out<R: Threads + Wait + Clock + Sync, O: Opener<R> + Sync>(
 // The turns of a worker.
 const TURNS: u64 = 50_000_000;
 
-// A run of the input writes the text, checked or not, over stores in memory and in tables.
+// A run of the input over such stores writes the text, checked or not.
+fn check_over<R: Threads + Wait + Clock + Abort + Sync, O: Opener<R> + Sync>(
+    rt: &R,
+    alloc: Global,
+    opener: &O,
+    input: &str,
+    text: &str,
+) {
+    for mode in [RunMode::Plain, RunMode::Check] {
+        let told = carry_out(rt, alloc, (mode, TURNS), opener, input.as_bytes());
+        let is_right = told.0 == Ok(()) && told.1.as_slice() == text.as_bytes();
+        assert!(rt; is_right, "{mode:?} {input}");
+    }
+}
+
+// The same over stores in memory and in tables.
 fn check_run<R: Threads + Wait + Clock + Abort + Sync>(
     rt: &R,
     alloc: Global,
@@ -86,19 +101,8 @@ fn check_run<R: Threads + Wait + Clock + Abort + Sync>(
     let tables = InTables {
         connects: Databases,
     };
-    for mode in [RunMode::Plain, RunMode::Check] {
-        let how = (mode, TURNS);
-        let told = carry_out(rt, alloc, how, &InMemory, input.as_bytes());
-        assert!(rt;
-            told.0 == Ok(()) && told.1.as_slice() == text.as_bytes(),
-            "{mode:?} {input}"
-        );
-        let told = carry_out(rt, alloc, how, &tables, input.as_bytes());
-        assert!(rt;
-            told.0 == Ok(()) && told.1.as_slice() == text.as_bytes(),
-            "{mode:?} {input}"
-        );
-    }
+    check_over(rt, alloc, &InMemory, input, text);
+    check_over(rt, alloc, &tables, input, text);
 }
 
 // The file without its lines that begin so.

@@ -75,7 +75,8 @@ pub(crate) fn put(rt: &impl Abort, alloc: Global, store: &mut MemStable, x: u8, 
     let mut receipts = Vec::new(alloc);
     receipts.push(bytes).expect(rt, "memory");
     assert!(rt; receipts.len() == 1);
-    assert_eq!(rt; store.put_receipts(alloc, u32::from(x), &receipts), Ok(()));
+    let put = store.put_receipts(alloc, u32::from(x), &receipts);
+    put.expect(rt, "stored");
 }
 
 // The store with the receipts of these intervals.
@@ -96,5 +97,5 @@ pub(crate) fn add_checkpoint(
     x: u32,
 ) {
     let mut core = ProcCore::replay(alloc, from, x).expect(rt, "a process");
-    assert_eq!(rt; core.checkpoint(alloc, store), Ok(()));
+    core.checkpoint(alloc, store).expect(rt, "stored");
 }

@@ -6,6 +6,7 @@ ghost use Rattle.om_world.specs.World.{IsEmpty, IsKnown};
 
 use om_interval::Pid;
 use om_isa::Ext;
+use om_machine::Machine;
 use om_process::{Image, StartFault, Status};
 use om_stable::MemStable;
 use om_timeline::{Deed, Peek, Position, Timeline};
@@ -135,13 +136,14 @@ fn record(
     Timeline::new(alloc, world, events, process).expect(rt, "memory")
 }
 
-fn seen_by(rt: &impl Abort, alloc: Global, process: Pid) -> Option<Timeline> {
+fn seen_by(rt: &impl Abort, alloc: Global, process: u32) -> Option<Timeline> {
+    let process = Pid::new(process).expect(rt, "the name of a process");
     record(rt, alloc, &SENDS, &EVENTS, process)
 }
 
 // The record as process 1 sees it, before its first event.
 fn begun(rt: &impl Abort, alloc: Global) -> Timeline {
-    seen_by(rt, alloc, Pid::at(1)).expect(rt, "a process")
+    seen_by(rt, alloc, 1).expect(rt, "a process")
 }
 
 // Plays all of the record, and stands behind it.
@@ -166,21 +168,35 @@ fn go(rt: &impl Abort, alloc: Global, timeline: &mut Timeline, event: usize, tur
         .expect(rt, "memory")
 }
 
+// It stands there behind so many events, and goes on where there are more.
+fn check_next(
+    rt: &impl Abort,
+    alloc: Global,
+    timeline: &mut Timeline,
+    event: usize,
+    wanted: (u32, u64),
+) {
+    let stands = (timeline.position().event, place(timeline));
+    assert_eq!(rt; stands, (event, wanted));
+    let more = timeline.look(alloc).expect(rt, "an event") == Peek::Next;
+    let passed = timeline.pass(alloc).expect(rt, "memory");
+    let is_right = more == (event < 9) && passed == more;
+    assert!(rt; is_right, "{event}");
+}
+
+fn check_events(rt: &impl Abort, alloc: Global, timeline: &mut Timeline) {
+    assert!(rt; timeline.events().len() == 9 && timeline.deeds().is_empty());
+    for (event, wanted) in BEHIND.iter().enumerate() {
+        check_next(rt, alloc, timeline, event, *wanted);
+    }
+}
+
+// What owns a timeline only hands it on: each further call where one is owned is dear to prove, and so is a drop that no call makes.
 #[test]
 fn each_event_is_passed(rt: HostRuntime) {
-    let alloc = rt.alloc();
-    let mut timeline = begun(&rt, alloc);
-    assert!(&rt; timeline.events().len() == 9 && timeline.deeds().is_empty());
-    for (event, wanted) in BEHIND.iter().enumerate() {
-        assert!(&rt; place(&timeline) == *wanted, "{event}");
-        assert!(&rt; timeline.position().event == event, "{event}");
-        let more = timeline.look(alloc).expect(&rt, "an event") == Peek::Next;
-        assert!(&rt; more == (event < 9), "{event}");
-        assert!(&rt;
-            timeline.pass(alloc).expect(&rt, "memory") == more,
-            "{event}"
-        );
-    }
+    let mut timeline = begun(&rt, rt.alloc());
+    check_events(&rt, rt.alloc(), &mut timeline);
+    drop(timeline);
 }
 
 // Returns what an event did, in a word.
@@ -197,69 +213,139 @@ fn word(deed: &Deed) -> &'static str {
     }
 }
 
-#[test]
-fn the_tape_has_what_was_done(rt: HostRuntime) {
-    let timeline = played(&rt, rt.alloc());
-    let wanted = [
-        "nothing", "ran 3", "took", "ran 1", "fell", "fell", "fell", "back", "ran 3",
-    ];
-    assert!(&rt; timeline.deeds().len() == 9);
-    for (deed, wanted) in timeline.deeds().iter().zip(wanted.iter()) {
-        assert!(&rt; word(deed) == *wanted, "{wanted}");
+// What each of them did.
+static WORDS: [&str; 9] = [
+    "nothing", "ran 3", "took", "ran 1", "fell", "fell", "fell", "back", "ran 3",
+];
+
+fn check_words(rt: &impl Abort, deeds: &[Deed]) {
+    assert!(rt; deeds.len() == 9);
+    for (deed, wanted) in deeds.iter().zip(WORDS.iter()) {
+        assert!(rt; word(deed) == *wanted, "{wanted}");
     }
 }
 
+#[test]
+fn the_tape_has_what_was_done(rt: HostRuntime) {
+    let timeline = played(&rt, rt.alloc());
+    check_words(&rt, timeline.deeds());
+    drop(timeline);
+}
+
+// Goes to a position, and stands there with this pc.
+fn check_gone(
+    rt: &impl Abort,
+    alloc: Global,
+    timeline: &mut Timeline,
+    (event, turns, pc): (usize, u64, u32),
+) {
+    assert!(rt; go(rt, alloc, timeline, event, turns), "{event}");
+    let at = timeline.position();
+    let stands = (at.event, at.turns, timeline.machine().pc());
+    assert_eq!(rt; stands, (event, turns, pc));
+}
+
+// There is no such position, and it stays.
+fn check_not_gone(
+    rt: &impl Abort,
+    alloc: Global,
+    timeline: &mut Timeline,
+    (event, turns): (usize, u64),
+) {
+    let stood = place(timeline);
+    let went = go(rt, alloc, timeline, event, turns);
+    let stays = !went && place(timeline) == stood;
+    assert!(rt; stays, "{event}");
+}
+
 // Back, forward, and to the middle of events.
+static THERE: [(usize, u64, u32); 6] = [
+    (1, 2, 8),
+    (8, 1, 4),
+    (3, 1, 20),
+    (2, 0, 12),
+    (9, 0, 12),
+    (0, 0, 0),
+];
+
+static NOT_THERE: [(usize, u64); 4] = [(1, 4), (0, 1), (9, 1), (10, 0)];
+
+fn check_positions(rt: &impl Abort, alloc: Global, timeline: &mut Timeline) {
+    for to in &THERE {
+        check_gone(rt, alloc, timeline, *to);
+    }
+    assert!(rt; place(timeline) == (0, 0));
+    for to in &NOT_THERE {
+        check_not_gone(rt, alloc, timeline, *to);
+    }
+}
+
 #[test]
 fn positions_are_gone_to(rt: HostRuntime) {
-    let alloc = rt.alloc();
-    let mut timeline = played(&rt, alloc);
-    for (event, turns, pc) in [
-        (1, 2, 8),
-        (8, 1, 4),
-        (3, 1, 20),
-        (2, 0, 12),
-        (9, 0, 12),
-        (0, 0, 0),
-    ] {
-        assert!(&rt; go(&rt, alloc, &mut timeline, event, turns), "{event}");
-        assert!(&rt; timeline.machine().pc() == pc, "{event}");
-        let at = timeline.position();
-        assert!(&rt; (at.event, at.turns) == (event, turns), "{event}");
+    let mut timeline = played(&rt, rt.alloc());
+    check_positions(&rt, rt.alloc(), &mut timeline);
+    drop(timeline);
+}
+
+// It is ready, goes on by one instruction, and stands at this pc.
+fn check_step(rt: &impl Abort, timeline: &mut Timeline, pc: u32) {
+    assert!(rt; timeline.status() == Status::Ready);
+    assert!(rt; timeline.step_one());
+    assert!(rt; timeline.machine().pc() == pc, "{pc}");
+}
+
+// The last bytes of the memory are those that came.
+fn check_memory(rt: &impl Abort, machine: &Machine, came: [u8; 4]) {
+    let memory = machine.memory();
+    assert!(rt; memory.len() == 68);
+    assert!(rt; &memory[64..] == came.as_slice());
+}
+
+// What process 1 has behind its message: how many bytes came, from whom, and the bytes.
+fn check_received(rt: &impl Abort, machine: &Machine) {
+    assert!(rt; machine.regs()[9] == 4 && machine.regs()[10] == 0);
+    check_memory(rt, machine, [0x93, 0x08, 0x10, 0x00]);
+}
+
+static PLACES: [u32; 3] = [4, 8, 12];
+
+// Through the first run, up to its end.
+fn check_steps(rt: &impl Abort, alloc: Global, timeline: &mut Timeline) {
+    check_gone(rt, alloc, timeline, (1, 0, 0));
+    for pc in &PLACES {
+        check_step(rt, timeline, *pc);
     }
-    // There are no such positions, and it stays.
-    for (event, turns) in [(1, 4), (0, 1), (9, 1), (10, 0)] {
-        assert!(&rt; !go(&rt, alloc, &mut timeline, event, turns), "{event}");
-        assert!(&rt; place(&timeline) == (0, 0), "{event}");
-    }
+    assert!(rt; !timeline.step_one());
+    assert!(rt; timeline.status() == Status::Waiting);
+}
+
+// To what came, and back to the begin.
+fn check_return(rt: &impl Abort, alloc: Global, timeline: &mut Timeline) {
+    check_gone(rt, alloc, timeline, (3, 0, 16));
+    check_received(rt, timeline.machine());
+    timeline.rewind(alloc).expect(rt, "memory");
+    assert!(rt; place(timeline) == (0, 0) && timeline.position().event == 0);
 }
 
 #[test]
 fn instructions_are_gone_through(rt: HostRuntime) {
-    let alloc = rt.alloc();
-    let mut timeline = played(&rt, alloc);
-    assert!(&rt; go(&rt, alloc, &mut timeline, 1, 0));
-    for pc in [4, 8, 12] {
-        assert!(&rt; timeline.status() == Status::Ready);
-        assert!(&rt; timeline.step_one());
-        assert!(&rt; timeline.machine().pc() == pc, "{pc}");
-    }
-    assert!(&rt; !timeline.step_one());
-    assert!(&rt; timeline.status() == Status::Waiting);
-    assert!(&rt; go(&rt, alloc, &mut timeline, 3, 0));
-    let machine = timeline.machine();
-    assert!(&rt; machine.regs()[9] == 4 && machine.regs()[10] == 0);
-    let memory = machine.memory();
-    assert!(&rt; memory.len() == 68);
-    assert!(&rt; &memory[64..] == [0x93, 0x08, 0x10, 0x00].as_slice());
-    timeline.rewind(alloc).expect(&rt, "memory");
-    assert!(&rt; place(&timeline) == (0, 0) && timeline.position().event == 0);
+    let mut timeline = played(&rt, rt.alloc());
+    check_steps(&rt, rt.alloc(), &mut timeline);
+    check_return(&rt, rt.alloc(), &mut timeline);
+    drop(timeline);
+}
+
+fn is_seen_by(rt: &impl Abort, alloc: Global, process: u32) -> bool {
+    let seen = seen_by(rt, alloc, process);
+    let is_there = seen.is_some();
+    drop(seen);
+    is_there
 }
 
 #[test]
 fn a_process_that_is_not_there(rt: HostRuntime) {
-    assert!(&rt; seen_by(&rt, rt.alloc(), Pid::at(2)).is_none());
-    assert!(&rt; seen_by(&rt, rt.alloc(), Pid::at(0)).is_some());
+    assert!(&rt; !is_seen_by(&rt, rt.alloc(), 2));
+    assert!(&rt; is_seen_by(&rt, rt.alloc(), 0));
 }
 
 // Asks who it is, counts down from 65,536, sends its first 4 bytes to process 1, counts down from 65,536 again, and ends with 0:
@@ -313,39 +399,69 @@ fn looks(rt: &impl Abort, alloc: Global, timeline: &mut Timeline) -> (u64, bool)
     (100, false)
 }
 
+// The first run takes two parts more, and is gone into up to its end, and no further.
+fn check_first_run(rt: &impl Abort, alloc: Global, timeline: &mut Timeline) {
+    assert!(rt; looks(rt, alloc, timeline) == (2, true));
+    assert!(rt; timeline.position().event == 0 && timeline.deeds().len() == 1);
+    check_gone(rt, alloc, timeline, (0, 120_000, 16));
+    assert!(rt; place(timeline) == (16, 120_000));
+    check_not_gone(rt, alloc, timeline, (0, 120_001));
+}
+
+// The next event is there at the first look.
+fn check_passed(rt: &impl Abort, alloc: Global, timeline: &mut Timeline) {
+    assert!(rt; timeline.pass(alloc).expect(rt, "memory"));
+    assert_eq!(rt; looks(rt, alloc, timeline), (0, true));
+}
+
+// The second run, to its end.
+fn check_second_run(rt: &impl Abort, alloc: Global, timeline: &mut Timeline) {
+    check_passed(rt, alloc, timeline);
+    check_passed(rt, alloc, timeline);
+    assert!(rt; place(timeline) == (52, 262_153) && timeline.status() == Status::Ended(0));
+}
+
+// The record of long runs, as a process sees it.
+fn long(rt: &impl Abort, alloc: Global, process: Pid) -> Timeline {
+    record(rt, alloc, &COUNTS, &LONG, process).expect(rt, "a process")
+}
+
 // A run in parts is the run: its deed, the machines in it, and what it sent. Each part has at most 50,000 instructions, and the part with
 // the first message is the last one.
 #[test]
 fn a_long_run_is_played_in_parts(rt: HostRuntime) {
-    let alloc = rt.alloc();
-    let mut timeline = record(&rt, alloc, &COUNTS, &LONG, Pid::at(0)).expect(&rt, "a process");
-    assert_eq!(&rt; looks(&rt, alloc, &mut timeline), (2, true));
-    assert!(&rt; timeline.position().event == 0 && timeline.deeds().len() == 1);
-    assert!(&rt; go(&rt, alloc, &mut timeline, 0, 120_000));
-    assert!(&rt; place(&timeline) == (16, 120_000));
-    assert!(&rt; !go(&rt, alloc, &mut timeline, 0, 120_001));
-    assert!(&rt; timeline.pass(alloc).expect(&rt, "memory"));
-    assert_eq!(&rt; looks(&rt, alloc, &mut timeline), (0, true));
-    assert!(&rt; timeline.pass(alloc).expect(&rt, "memory"));
-    assert!(&rt; place(&timeline) == (52, 262_153) && timeline.status() == Status::Ended(0));
-    assert_eq!(&rt; looks(&rt, alloc, &mut timeline), (0, true));
+    let mut timeline = long(&rt, rt.alloc(), Pid::at(0));
+    check_first_run(&rt, rt.alloc(), &mut timeline);
+    check_second_run(&rt, rt.alloc(), &mut timeline);
+    drop(timeline);
+}
+
+// By event, in how many parts a run of another process is looked at.
+static PARTS: [(usize, u64); 4] = [(0, 2), (1, 0), (2, 0), (3, 0)];
+
+fn check_part(
+    rt: &impl Abort,
+    alloc: Global,
+    timeline: &mut Timeline,
+    (event, parts): (usize, u64),
+) {
+    assert!(rt; looks(rt, alloc, timeline) == (parts, true), "{event}");
+    assert!(rt; timeline.pass(alloc).expect(rt, "memory"), "{event}");
+}
+
+fn check_parts(rt: &impl Abort, alloc: Global, timeline: &mut Timeline) {
+    for part in &PARTS {
+        check_part(rt, alloc, timeline, *part);
+    }
+    assert!(rt; looks(rt, alloc, timeline) == (0, false));
+    assert!(rt; place(timeline) == (16, 4));
+    check_memory(rt, timeline.machine(), [0x93, 0x08, 0x40, 0x00]);
 }
 
 // Of a run of another process nothing is seen but what it sent.
 #[test]
 fn a_long_run_of_another(rt: HostRuntime) {
-    let alloc = rt.alloc();
-    let mut timeline = record(&rt, alloc, &COUNTS, &LONG, Pid::at(1)).expect(&rt, "a process");
-    for (event, parts) in [(0, 2), (1, 0), (2, 0), (3, 0)] {
-        assert!(&rt;
-            looks(&rt, alloc, &mut timeline) == (parts, true),
-            "{event}"
-        );
-        assert!(&rt; timeline.pass(alloc).expect(&rt, "memory"), "{event}");
-    }
-    assert_eq!(&rt; looks(&rt, alloc, &mut timeline), (0, false));
-    assert!(&rt; place(&timeline) == (16, 4));
-    let memory = timeline.machine().memory();
-    assert!(&rt; memory.len() == 68);
-    assert!(&rt; &memory[64..] == [0x93, 0x08, 0x40, 0x00].as_slice());
+    let mut timeline = long(&rt, rt.alloc(), Pid::at(1));
+    check_parts(&rt, rt.alloc(), &mut timeline);
+    drop(timeline);
 }

@@ -83,7 +83,22 @@ pub fn line(alloc: Global) -> Result<World<MemStable>, StartFault> {
     World::start(alloc, &images, stores)
 }
 
-// The answers to events over the three processes, of which some are compared: those from a place on.
+// Plays events, and compares some of the answers: those from a place on.
+pub fn check_answers(
+    rt: &impl Abort,
+    alloc: Global,
+    world: &mut World<MemStable>,
+    events: &[Event],
+    (from, wanted): (usize, &[Answer]),
+) {
+    let answers = world.play(alloc, events).expect(rt, "memory");
+    let compared = answers.as_slice().get(from..).unwrap_or(&[]);
+    let compared = compared.get(..wanted.len()).unwrap_or(compared);
+    assert!(rt; answers.len() == events.len());
+    assert_eq!(rt; compared, wanted);
+}
+
+// The three processes behind these events.
 fn played(
     rt: &impl Abort,
     alloc: Global,
@@ -92,10 +107,7 @@ fn played(
     wanted: &[Answer],
 ) -> World<MemStable> {
     let mut world = line(alloc).expect(rt, "a world");
-    let answers = world.play(alloc, events).expect(rt, "memory");
-    let compared = answers.as_slice().get(from..).unwrap_or(&[]);
-    let compared = compared.get(..wanted.len()).unwrap_or(compared);
-    assert_eq!(rt; (answers.len(), compared), (events.len(), wanted));
+    check_answers(rt, alloc, &mut world, events, (from, wanted));
     world
 }
 
@@ -167,21 +179,20 @@ pub static PASSED_ON_ANSWERS: [Answer; 8] = [
     Answer::Noted(1),
 ];
 
+fn check_passed_on(rt: &impl Abort, world: &World<MemStable>) {
+    let recovery = world.manager().recovery();
+    assert!(rt; world.frames().len() == 2 && recovery.get(Pid::at(0)) == 0);
+    assert!(rt; world.core(Pid::at(3)).is_none());
+    let first = world.core(Pid::at(0)).expect(rt, "a core");
+    assert!(rt; first.inc() == 0 && first.interval() == 1);
+}
+
+// What owns a world only hands it on: each further call where one is owned is dear to prove, and so is a drop that no call makes.
 #[test]
 fn a_message_is_passed_on(rt: HostRuntime) {
     let world = played(&rt, rt.alloc(), &PASSED_ON, 0, &PASSED_ON_ANSWERS);
-    let recovery = world.manager().recovery();
-    let first = world.core(Pid::at(0)).expect(&rt, "a core");
-    assert_eq!(&rt;
-        (
-            world.frames().len(),
-            recovery.get(Pid::at(0)),
-            first.inc(),
-            first.interval(),
-            world.core(Pid::at(3)).is_some()
-        ),
-        (2, 0, 0, 1, false)
-    );
+    check_passed_on(&rt, &world);
+    drop(world);
 }
 
 static REFUSED: [Event; 9] = [
@@ -224,7 +235,7 @@ static REFUSED_ANSWERS: [Answer; 9] = [
 
 #[test]
 fn events_are_refused(rt: HostRuntime) {
-    let _ = played(&rt, rt.alloc(), &REFUSED, 0, &REFUSED_ANSWERS);
+    drop(played(&rt, rt.alloc(), &REFUSED, 0, &REFUSED_ANSWERS));
 }
 
 // The second process fails once its message has gone on to the first, whose record of it is stored: the message is an
@@ -342,8 +353,9 @@ pub static FAILURE_ANSWERS: [Answer; 13] = [
 #[test]
 fn a_process_fails_and_another_is_rolled_back(rt: HostRuntime) {
     let world = played(&rt, rt.alloc(), &RUN_WITH_A_FAILURE, 8, &FAILURE_ANSWERS);
-    assert_eq!(&rt; world.frames().len(), 3);
+    assert!(&rt; world.frames().len() == 3);
     check_the_end(&rt, &world);
+    drop(world);
 }
 
 static RECOVERED: [u32; 3] = [1, 1, 0];
@@ -352,24 +364,31 @@ static RELEASED: [u8; 4] = [0x93, 0x08, 0x10, 0x00];
 
 // The end of that run.
 pub fn check_the_end<S: Stable>(rt: &impl Abort, world: &World<S>) {
+    check_recovered(rt, world);
+    check_process(rt, world, Pid::at(0), (1, 1));
+    check_process(rt, world, Pid::at(1), (1, 1));
+    check_process(rt, world, Pid::at(2), (0, 0));
+}
+
+// What is recoverable, and what is released.
+fn check_recovered<S: Stable>(rt: &impl Abort, world: &World<S>) {
     let recovery = world.manager().recovery();
     assert_eq!(rt; recovery.as_slice(), RECOVERED.as_slice());
     check_released(rt, world.manager().released(Pid::at(0)));
     assert!(rt; world.manager().released(Pid::at(1)).is_empty());
     assert!(rt; world.manager().released(Pid::at(2)).is_empty());
-    let ends = (
-        end_of(rt, world, Pid::at(0)),
-        end_of(rt, world, Pid::at(1)),
-        end_of(rt, world, Pid::at(2)),
-    );
-    let ended = Status::Ended(0);
-    assert_eq!(rt; ends, ((1, 1, ended), (1, 1, ended), (0, 0, ended)));
 }
 
-// The incarnation, the interval and the status of a process.
-fn end_of<S: Stable>(rt: &impl Abort, world: &World<S>, pid: Pid) -> (u32, u32, Status) {
+// The incarnation and the interval of a process, which has ended with 0.
+fn check_process<S: Stable>(
+    rt: &impl Abort,
+    world: &World<S>,
+    pid: Pid,
+    (inc, interval): (u32, u32),
+) {
     let core = world.core(pid).expect(rt, "a core");
-    (core.inc(), core.interval(), core.status())
+    let end = (core.inc(), core.interval(), core.status());
+    assert_eq!(rt; end, (inc, interval, Status::Ended(0)));
 }
 
 fn check_released(rt: &impl Abort, released: &[Output]) {
@@ -424,16 +443,22 @@ fn play_run<S: Stable>(alloc: Global, world: &mut World<S>) -> Result<bool, Allo
     Ok(stopped)
 }
 
+// Plays it with a store that stops after so many calls, and says whether it stopped.
+fn stops(rt: &impl Abort, alloc: Global, store: usize, calls: u64) -> bool {
+    let mut world = fused_line(alloc, store, calls).expect(rt, "a world");
+    let stopped = play_run(alloc, &mut world).expect(rt, "memory");
+    check_the_end(rt, &world);
+    drop(world);
+    stopped
+}
+
 // Plays it with a store that stops at each of its calls in turn, after that of the start, until it stops no more. The third
 // process stores nothing after its start.
 fn stop_at_each_call(rt: &impl Abort, alloc: Global, store: usize) {
     assert!(rt; fused_line(alloc, store, 0).err() == Some(StartFault::Fault));
     for calls in 1..100 {
-        let mut world = fused_line(alloc, store, calls).expect(rt, "a world");
-        let stopped = play_run(alloc, &mut world).expect(rt, "memory");
-        check_the_end(rt, &world);
-        if !stopped {
-            assert_eq!(rt; calls > 1, store < 2);
+        if !stops(rt, alloc, store, calls) {
+            assert!(rt; (calls > 1) == (store < 2), "{calls}");
             return;
         }
     }
@@ -453,8 +478,13 @@ fn refused(alloc: Global, size: u32) -> Result<(), StartFault> {
     images.push_reserved(image(alloc, &SENDS, size)?);
     let mut stores = Vec::with_capacity(alloc, 1)?;
     stores.push_reserved(MemStable::new(alloc));
-    let _ = World::start(alloc, &images, stores)?;
-    Ok(())
+    let world = World::start(alloc, &images, stores);
+    let answer = match &world {
+        Ok(_) => Ok(()),
+        Err(fault) => Err(*fault),
+    };
+    drop(world);
+    answer
 }
 
 static STARTS: [(u32, Result<(), StartFault>); 3] = [
@@ -599,12 +629,8 @@ pub fn recovered(rt: &impl Abort, alloc: Global, events: &[Event]) -> u32 {
 #[test]
 fn a_log_is_stored_in_parts(rt: HostRuntime) {
     let mut world = pair(rt.alloc()).expect(&rt, "a world");
-    let answers = world
-        .play(rt.alloc(), &STORED_IN_PARTS)
-        .expect(&rt, "memory");
-    let told = answers.as_slice().get(5..).unwrap_or(&[]);
-    assert_eq!(&rt; told, STORED_IN_PARTS_ANSWERS.as_slice());
-    drop(answers);
+    let wanted = (5, STORED_IN_PARTS_ANSWERS.as_slice());
+    check_answers(&rt, rt.alloc(), &mut world, &STORED_IN_PARTS, wanted);
     drop(world);
 }
 

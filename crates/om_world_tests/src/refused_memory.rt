@@ -65,20 +65,25 @@ fn wanted(k: usize) -> Option<Answer> {
     }
 }
 
+fn check_run<S: Stable>(rt: &impl Abort, alloc: Global, world: &mut World<S>) {
+    let mut frames = 0usize;
+    for (k, event) in RUN_WITH_A_FAILURE.iter().enumerate() {
+        let told = answer_to(alloc, world, *event);
+        let answer = wanted(k).unwrap_or(told);
+        let is_right = if told == MEMORY {
+            play_again(alloc, world, *event, frames)
+        } else {
+            told == answer
+        };
+        assert!(rt; is_right, "event {k}");
+        frames = frames.wrapping_add(sent_by(answer));
+    }
+}
+
 #[test]
 fn a_run_goes_on_without_memory(rt: HostRuntime) {
     let mut world = started(&rt, rt.alloc());
-    let mut frames = 0usize;
-    for (k, event) in RUN_WITH_A_FAILURE.iter().enumerate() {
-        let told = answer_to(rt.alloc(), &mut world, *event);
-        let answer = wanted(k).unwrap_or(told);
-        if told == MEMORY {
-            let is_played = play_again(rt.alloc(), &mut world, *event, frames);
-            assert!(&rt; is_played, "event {k}");
-        } else {
-            assert!(&rt; told == answer, "event {k}");
-        }
-        frames = frames.wrapping_add(sent_by(answer));
-    }
+    check_run(&rt, rt.alloc(), &mut world);
     check_the_end(&rt, &world);
+    drop(world);
 }

@@ -32,6 +32,17 @@ fn play(rt: &impl Abort, alloc: Global, world: &mut World<MemStable>, event: Eve
     answer
 }
 
+// Compares the answer to an event.
+fn check(
+    rt: &impl Abort,
+    alloc: Global,
+    world: &mut World<MemStable>,
+    event: Event,
+    wanted: Answer,
+) {
+    assert_eq!(rt; play(rt, alloc, world, event), wanted);
+}
+
 // Each process that is to come back does.
 fn resume_all(rt: &impl Abort, alloc: Global, world: &mut World<MemStable>) {
     for process in 0..3 {
@@ -73,6 +84,11 @@ fn released(rt: &impl Abort, alloc: Global, world: &World<MemStable>) -> Vec<u8>
     bytes
 }
 
+// Just these bytes are released.
+fn check_released(rt: &impl Abort, alloc: Global, world: &World<MemStable>, wanted: &[u8]) {
+    assert_eq!(rt; released(rt, alloc, world).as_slice(), wanted);
+}
+
 // A world that played so many events of a script.
 fn begun(rt: &impl Abort, alloc: Global, script: &[Event], count: usize) -> World<MemStable> {
     let mut world = line(alloc).expect(rt, "a world");
@@ -92,16 +108,35 @@ fn settle(rt: &impl Abort, alloc: Global, world: &mut World<MemStable>) {
     }
 }
 
-// What a script puts out in all, where nothing stops.
+// What a script puts out in all, where nothing stops: something. What owns a world only hands it on: each further call where one is owned
+// is dear to prove, and so is a drop that no call makes.
 fn wanted(rt: &impl Abort, alloc: Global, script: &[Event]) -> Vec<u8> {
     let mut world = begun(rt, alloc, script, script.len());
-    settle(rt, alloc, &mut world);
-    drive(rt, alloc, &mut world);
-    released(rt, alloc, &world)
+    let whole = released_in_the_end(rt, alloc, &mut world);
+    drop(world);
+    assert!(rt; !whole.is_empty());
+    whole
 }
 
-// A restart leaves all that was released, and in the end the same is released as without one. Returns whether it was refused first,
-// since not all knew the last round and one had stored.
+fn released_in_the_end(rt: &impl Abort, alloc: Global, world: &mut World<MemStable>) -> Vec<u8> {
+    settle(rt, alloc, world);
+    drive(rt, alloc, world);
+    released(rt, alloc, world)
+}
+
+// Starts all over. Returns whether it was refused first, since not all knew the last round and one had stored.
+fn restarted(rt: &impl Abort, alloc: Global, world: &mut World<MemStable>) -> bool {
+    let answer = play(rt, alloc, world, Event::Restart);
+    if answer == Answer::Restarted {
+        return false;
+    }
+    assert_eq!(rt; answer, Answer::Refused(Refusal::Unsettled));
+    settle(rt, alloc, world);
+    check(rt, alloc, world, Event::Restart, Answer::Restarted);
+    true
+}
+
+// A restart leaves all that was released, and in the end the same is released as without one. Returns whether it was refused first.
 fn loses_nothing(
     rt: &impl Abort,
     alloc: Global,
@@ -110,19 +145,24 @@ fn loses_nothing(
 ) -> bool {
     let before = released(rt, alloc, world);
     let recovery = world.manager().recovery();
-    let mut answer = play(rt, alloc, world, Event::Restart);
-    let is_unsettled = answer == Answer::Refused(Refusal::Unsettled);
-    if is_unsettled {
-        settle(rt, alloc, world);
-        answer = play(rt, alloc, world, Event::Restart);
-    }
-    assert_eq!(rt; answer, Answer::Restarted);
+    let is_unsettled = restarted(rt, alloc, world);
     assert!(rt; recovery.leq(&world.manager().recovery()));
     resume_all(rt, alloc, world);
-    assert_eq!(rt; released(rt, alloc, world).starts_with(&before), true);
+    assert!(rt; released(rt, alloc, world).starts_with(&before));
     drive(rt, alloc, world);
-    assert_eq!(rt; released(rt, alloc, world).as_slice(), whole);
+    check_released(rt, alloc, world, whole);
     is_unsettled
+}
+
+// A restart behind so many events of the run with a failure, and a second one where one comes first, are not refused.
+fn check_restart(rt: &impl Abort, alloc: Global, count: usize, is_second: bool, whole: &[u8]) {
+    let mut world = begun(rt, alloc, &RUN_WITH_A_FAILURE, count);
+    if is_second {
+        check(rt, alloc, &mut world, Event::Restart, Answer::Restarted);
+    }
+    let is_unsettled = loses_nothing(rt, alloc, &mut world, whole);
+    drop(world);
+    assert!(rt; !is_unsettled, "{count}");
 }
 
 // At each point all that was released stays, each process comes back, and in the end the same is released as without a stop; between the
@@ -131,35 +171,47 @@ fn loses_nothing(
 fn a_restart_at_each_point_loses_nothing(rt: HostRuntime) {
     let alloc = rt.alloc();
     let whole = wanted(&rt, alloc, &RUN_WITH_A_FAILURE);
-    assert_eq!(&rt; whole.is_empty(), false);
     for count in 0..POINTS {
-        let mut world = begun(&rt, alloc, &RUN_WITH_A_FAILURE, count);
-        let is_unsettled = loses_nothing(&rt, alloc, &mut world, &whole);
-        assert!(&rt; !is_unsettled);
+        check_restart(&rt, alloc, count, false, &whole);
     }
 }
 
-// The round of the script is finished, and not all are back: all starts over, twice; and not where one has stored since, until all are
-// back.
+// The round of the script is finished, and not all are back: all starts over, twice.
+#[test]
+fn a_restart_before_the_last_return_loses_nothing(rt: HostRuntime) {
+    let alloc = rt.alloc();
+    let whole = wanted(&rt, alloc, &RUN_WITH_A_FAILURE);
+    for count in &BETWEEN {
+        check_restart(&rt, alloc, *count, true, &whole);
+    }
+}
+
+// Process 1 stores, of which so much is noted, and all that knew the last round still do, or not.
+fn check_stores(
+    rt: &impl Abort,
+    alloc: Global,
+    world: &mut World<MemStable>,
+    (noted, is_settled): (Answer, bool),
+) {
+    check(rt, alloc, world, Event::Flush { process: 1 }, noted);
+    assert!(rt; world.is_settled() == is_settled);
+}
+
+// Not where one has stored since, until all are back.
+fn check_unsettled(rt: &impl Abort, alloc: Global, world: &mut World<MemStable>, whole: &[u8]) {
+    take_all(rt, alloc, world, 1);
+    assert!(rt; world.is_settled());
+    check_stores(rt, alloc, world, (Answer::Noted(1), false));
+    assert!(rt; loses_nothing(rt, alloc, world, whole));
+}
+
 #[test]
 fn a_restart_before_the_last_return_wants_nothing_stored(rt: HostRuntime) {
     let alloc = rt.alloc();
     let whole = wanted(&rt, alloc, &RUN_WITH_A_FAILURE);
-    for count in BETWEEN {
-        let mut world = begun(&rt, alloc, &RUN_WITH_A_FAILURE, count);
-        let first = play(&rt, alloc, &mut world, Event::Restart);
-        assert_eq!(&rt; first, Answer::Restarted);
-        let is_unsettled = loses_nothing(&rt, alloc, &mut world, &whole);
-        assert!(&rt; !is_unsettled);
-    }
     let mut world = begun(&rt, alloc, &RUN_WITH_A_FAILURE, LAST_BETWEEN);
-    take_all(&rt, alloc, &mut world, 1);
-    assert!(&rt; world.is_settled());
-    let stored = play(&rt, alloc, &mut world, Event::Flush { process: 1 });
-    assert_eq!(&rt; stored, Answer::Noted(1));
-    assert!(&rt; !world.is_settled());
-    let is_unsettled = loses_nothing(&rt, alloc, &mut world, &whole);
-    assert!(&rt; is_unsettled);
+    check_unsettled(&rt, alloc, &mut world, &whole);
+    drop(world);
 }
 
 // One that is back stores what it has not: nothing stands on a disk that did not before, and all starts over.
@@ -168,10 +220,9 @@ fn a_flush_of_nothing_before_the_last_return_stores_nothing(rt: HostRuntime) {
     let alloc = rt.alloc();
     let whole = wanted(&rt, alloc, &RUN_WITH_A_FAILURE);
     let mut world = begun(&rt, alloc, &RUN_WITH_A_FAILURE, LAST_BETWEEN);
-    let stored = play(&rt, alloc, &mut world, Event::Flush { process: 1 });
-    assert_eq!(&rt; stored, Answer::Noted(0));
-    assert!(&rt; world.is_settled());
+    check_stores(&rt, alloc, &mut world, (Answer::Noted(0), true));
     let is_unsettled = loses_nothing(&rt, alloc, &mut world, &whole);
+    drop(world);
     assert!(&rt; !is_unsettled);
 }
 
@@ -210,6 +261,21 @@ fn drawn(rt: &impl Abort, alloc: Global, seed: u64) -> Vec<Event> {
     script
 }
 
+// A restart behind so many events of a script loses nothing, and is refused first where not all knew the last round and one had stored.
+fn loses_nothing_behind(
+    rt: &impl Abort,
+    alloc: Global,
+    script: &[Event],
+    count: usize,
+    whole: &[u8],
+) {
+    let mut world = begun(rt, alloc, script, count);
+    let is_settled = world.is_settled();
+    let is_unsettled = loses_nothing(rt, alloc, &mut world, whole);
+    drop(world);
+    assert!(rt; is_unsettled == !is_settled);
+}
+
 // At each point of each script that is drawn: with failures, rounds that are open or finished, checkpoints and prunes before it.
 #[test]
 fn a_restart_in_a_drawn_script_loses_nothing(rt: HostRuntime) {
@@ -217,29 +283,52 @@ fn a_restart_in_a_drawn_script_loses_nothing(rt: HostRuntime) {
     for seed in &SEEDS {
         let script = drawn(&rt, alloc, *seed);
         let whole = wanted(&rt, alloc, &script);
-        assert_eq!(&rt; whole.is_empty(), false);
         for count in 0..DRAWN + 1 {
-            let mut world = begun(&rt, alloc, &script, count);
-            let is_settled = world.is_settled();
-            let is_unsettled = loses_nothing(&rt, alloc, &mut world, &whole);
-            assert_eq!(&rt; is_unsettled, !is_settled);
+            loses_nothing_behind(&rt, alloc, &script, count, &whole);
         }
     }
 }
 
-// Ends the world, and takes up what is left: all that was recovered and released is there, and no frame.
+// Ends the world, and takes up what is left.
 fn taken_up(rt: &impl Abort, alloc: Global, world: World<MemStable>) -> World<MemStable> {
-    let before = released(rt, alloc, &world);
-    let recovery = world.manager().recovery();
     assert!(rt; world.is_settled());
     let left = world.stop(alloc).expect(rt, "memory");
     let taken = World::take_up(alloc, left);
     assert!(rt; taken.is_ok());
-    let world = taken.ok().expect(rt, "a world");
+    taken.ok().expect(rt, "a world")
+}
+
+// Ends the world, and goes on from what is left: all that was recovered and released is there, and no frame.
+fn goes_on(rt: &impl Abort, alloc: Global, world: World<MemStable>) -> World<MemStable> {
+    let before = released(rt, alloc, &world);
+    let recovery = world.manager().recovery();
+    let mut world = taken_up(rt, alloc, world);
     assert!(rt; recovery.leq(&world.manager().recovery()));
-    assert_eq!(rt; released(rt, alloc, &world).as_slice(), before.as_slice());
+    check_released(rt, alloc, &world, &before);
     assert!(rt; world.frames().is_empty());
+    resume_all(rt, alloc, &mut world);
     world
+}
+
+// A world that played so many events of a script, and in which all know the last round.
+fn begun_and_settled(
+    rt: &impl Abort,
+    alloc: Global,
+    script: &[Event],
+    count: usize,
+) -> World<MemStable> {
+    let mut world = begun(rt, alloc, script, count);
+    if !world.is_settled() {
+        settle(rt, alloc, &mut world);
+    }
+    world
+}
+
+fn play_rest(rt: &impl Abort, alloc: Global, world: &mut World<MemStable>, rest: &[Event]) {
+    for event in rest {
+        let _ = play(rt, alloc, world, *event);
+    }
+    settle(rt, alloc, world);
 }
 
 // A chain of two stops, the second after so many further events: in the end the same is released as without any.
@@ -250,20 +339,14 @@ fn two_stops_lose_nothing(
     count: usize,
     whole: &[u8],
 ) {
-    let mut world = begun(rt, alloc, script, count);
-    if !world.is_settled() {
-        settle(rt, alloc, &mut world);
-    }
-    let mut world = taken_up(rt, alloc, world);
-    resume_all(rt, alloc, &mut world);
-    for event in script.get(count..).unwrap_or(&[]) {
-        let _ = play(rt, alloc, &mut world, *event);
-    }
-    settle(rt, alloc, &mut world);
-    let mut world = taken_up(rt, alloc, world);
-    resume_all(rt, alloc, &mut world);
+    let world = begun_and_settled(rt, alloc, script, count);
+    let mut world = goes_on(rt, alloc, world);
+    let rest = script.get(count..).unwrap_or(&[]);
+    play_rest(rt, alloc, &mut world, rest);
+    let mut world = goes_on(rt, alloc, world);
     drive(rt, alloc, &mut world);
-    assert_eq!(rt; released(rt, alloc, &world).as_slice(), whole);
+    check_released(rt, alloc, &world, whole);
+    drop(world);
 }
 
 // What was stored before two stops and between them is not lost, and nothing is put out twice or otherwise, wherever a script stops.
@@ -273,11 +356,15 @@ fn two_stops_in_a_drawn_script_lose_nothing(rt: HostRuntime) {
     for seed in &SEEDS {
         let script = drawn(&rt, alloc, *seed);
         let whole = wanted(&rt, alloc, &script);
-        assert_eq!(&rt; whole.is_empty(), false);
         for count in 0..DRAWN + 1 {
             two_stops_lose_nothing(&rt, alloc, &script, count, &whole);
         }
     }
+}
+
+#[test]
+fn two_stops_in_the_run_with_a_failure_lose_nothing(rt: HostRuntime) {
+    let alloc = rt.alloc();
     let whole = wanted(&rt, alloc, &RUN_WITH_A_FAILURE);
     for count in 0..POINTS {
         two_stops_lose_nothing(&rt, alloc, &RUN_WITH_A_FAILURE, count, &whole);
@@ -286,7 +373,7 @@ fn two_stops_in_a_drawn_script_lose_nothing(rt: HostRuntime) {
 
 // The frames are just these, each from the one process to the other.
 fn check_frames(rt: &impl Abort, world: &World<MemStable>, wanted: &[(usize, usize)]) {
-    assert_eq!(rt; world.frames().len(), wanted.len());
+    assert!(rt; world.frames().len() == wanted.len());
     for k in 0..wanted.len() {
         let message = world.frames().get(k).expect(rt, "a frame");
         assert_eq!(rt; (message.from.index(), message.to.index()), wanted[k]);
@@ -296,22 +383,25 @@ fn check_frames(rt: &impl Abort, world: &World<MemStable>, wanted: &[(usize, usi
 // Behind what process 1 passed on.
 const PASSED_ON: usize = 5;
 
-// The frames are told in the order in which they were made. A restart leaves none, and what process 1 passes on is the first then.
-#[test]
-fn frames_are_told(rt: HostRuntime) {
-    let alloc = rt.alloc();
-    let mut world = begun(&rt, alloc, &RUN_WITH_A_FAILURE, PASSED_ON);
-    check_frames(&rt, &world, &[(2, 1), (1, 0)]);
-    let stored = play(&rt, alloc, &mut world, Event::Flush { process: 1 });
-    assert_eq!(&rt; stored, Answer::Noted(1));
-    let answer = play(&rt, alloc, &mut world, Event::Restart);
-    assert_eq!(&rt; answer, Answer::Restarted);
-    check_frames(&rt, &world, &[]);
-    resume_all(&rt, alloc, &mut world);
+fn check_passed_on(rt: &impl Abort, alloc: Global, world: &mut World<MemStable>) {
+    check_frames(rt, world, &[(2, 1), (1, 0)]);
+    let flush = Event::Flush { process: 1 };
+    check(rt, alloc, world, flush, Answer::Noted(1));
+    check(rt, alloc, world, Event::Restart, Answer::Restarted);
+    check_frames(rt, world, &[]);
+    resume_all(rt, alloc, world);
     let run = Event::Run {
         process: 1,
         fuel: 100,
     };
-    let _ = play(&rt, alloc, &mut world, run);
-    check_frames(&rt, &world, &[(1, 0)]);
+    let _ = play(rt, alloc, world, run);
+    check_frames(rt, world, &[(1, 0)]);
+}
+
+// The frames are told in the order in which they were made. A restart leaves none, and what process 1 passes on is the first then.
+#[test]
+fn frames_are_told(rt: HostRuntime) {
+    let mut world = begun(&rt, rt.alloc(), &RUN_WITH_A_FAILURE, PASSED_ON);
+    check_passed_on(&rt, rt.alloc(), &mut world);
+    drop(world);
 }

@@ -1,6 +1,6 @@
 //! Checkpoints that are stored before their rows are noted.
 
-use crate::events::{pair, recovered};
+use crate::events::{check_answers, pair, recovered};
 use om_manager::Gathered;
 use om_process::{Accept, Status};
 use om_world::{Answer, Event, Refusal};
@@ -116,10 +116,7 @@ static LOST_ANSWERS: [Answer; 8] = [
 // Plays the events, and compares what is answered behind the first three.
 fn assert_answers<R: Abort>(rt: &R, alloc: Global, events: &[Event], wanted: &[Answer]) {
     let mut world = pair(alloc).expect(rt, "a world");
-    let answers = world.play(alloc, events).expect(rt, "memory");
-    let told = answers.as_slice().get(3..).unwrap_or(&[]);
-    assert_eq!(rt; told, wanted);
-    drop(answers);
+    check_answers(rt, alloc, &mut world, events, (3, wanted));
     drop(world);
 }
 

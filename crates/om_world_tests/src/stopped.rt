@@ -28,16 +28,20 @@ fn receipts_in(rt: &impl Abort, alloc: Global, store: &mut MemStable) -> usize {
     count
 }
 
+fn check_left(rt: &impl Abort, alloc: Global, stores: &mut [MemStable], wanted: [usize; 2]) {
+    assert!(rt; stores.len() == wanted.len());
+    for (store, receipts) in stores.iter_mut().zip(wanted.iter()) {
+        assert!(rt; receipts_in(rt, alloc, store) == *receipts, "{receipts}");
+    }
+}
+
 // What was stored is left, by process, and nothing else.
 #[test]
 fn what_was_stored_is_left(rt: HostRuntime) {
     for (count, receipts) in [(0, 0), (5, 0), (6, 1), (7, 1), (8, 2)] {
-        let mut left = Vec::new(rt.alloc());
-        for mut store in stopped(&rt, rt.alloc(), count) {
-            let found = receipts_in(&rt, rt.alloc(), &mut store);
-            left.push(found).expect(&rt, "memory");
-        }
-        assert_eq!(&rt; left.as_slice(), [0, receipts].as_slice());
+        let mut stores = stopped(&rt, rt.alloc(), count);
+        check_left(&rt, rt.alloc(), &mut stores, [0, receipts]);
+        drop(stores);
     }
 }
 

@@ -220,16 +220,23 @@ fn check_altered<R: Threads + Wait + Clock + Abort + Sync>(
     }
 }
 
+// What is answered and written where the stores keep what they are given.
+fn check_kept<R: Threads + Wait + Clock + Abort + Sync>(
+    rt: &R,
+    alloc: Global,
+    mode: RunMode<'static>,
+) {
+    let mut beside = Beside::new(alloc);
+    let input = TWICE.as_bytes();
+    let told = carry_out(rt, alloc, mode, &InMemory, &mut beside, input);
+    let is_right = told.0 == Ok(()) && told.1.as_slice() == TWICE_ENDS.as_bytes();
+    assert!(rt; is_right, "{mode:?}");
+}
+
 #[test]
 fn stores_that_alter_are_seen_by_a_check(rt: HostRuntime) {
     for (mode, _, _) in &ALTERED {
-        let mut beside = Beside::new(rt.alloc());
-        let input = TWICE.as_bytes();
-        let told = carry_out(&rt, rt.alloc(), *mode, &InMemory, &mut beside, input);
-        assert!(&rt;
-            told.0 == Ok(()) && told.1.as_slice() == TWICE_ENDS.as_bytes(),
-            "{mode:?}"
-        );
+        check_kept(&rt, rt.alloc(), *mode);
         check_altered(&rt, rt.alloc(), *mode);
     }
 }
@@ -249,69 +256,97 @@ fn is_script(rt: &impl Abort, file: &[u8], head: &str) -> bool {
     text.starts_with(head) && text.contains("\nrun 0 ") && text.contains("\ngive 1 0\n")
 }
 
+// The file of a run in a mode is a script with comments or without, or has nothing.
+fn check_file<R: Threads + Wait + Clock + Abort + Sync>(
+    rt: &R,
+    alloc: Global,
+    head: &str,
+    (mode, is_written, has_comments): (RunMode<'static>, bool, bool),
+) {
+    let mut beside = Beside::new(alloc);
+    let input = TWICE.as_bytes();
+    let told = carry_out(rt, alloc, mode, &InMemory, &mut beside, input);
+    let file = beside.file.as_slice();
+    let is_right = if is_written {
+        is_script(rt, file, head) && file.contains(&b'#') == has_comments
+    } else {
+        file.is_empty()
+    };
+    assert!(rt; told.0 == Ok(()) && is_right, "{mode:?}");
+}
+
 #[test]
 fn scripts_are_written_by_their_modes(rt: HostRuntime) {
     let end = TWICE.find("kill").expect(&rt, "kills");
     let head = TWICE.get(..end).expect(&rt, "lines");
-    for (mode, is_written, has_comments) in &FILES {
-        let mut beside = Beside::new(rt.alloc());
-        let input = TWICE.as_bytes();
-        let told = carry_out(&rt, rt.alloc(), *mode, &InMemory, &mut beside, input);
-        let file = beside.file.as_slice();
-        let is_right = if *is_written {
-            is_script(&rt, file, head) && file.contains(&b'#') == *has_comments
-        } else {
-            file.is_empty()
-        };
-        assert!(&rt; told.0 == Ok(()) && is_right, "{mode:?}");
+    for row in &FILES {
+        check_file(&rt, rt.alloc(), head, *row);
     }
+}
+
+// How often it was made ready, and how often it was told the end.
+fn check_counts(rt: &impl Abort, beside: &Beside, begun: u32, ended: u32) {
+    let is_right = beside.begun == begun && beside.ended == ended;
+    assert!(rt; is_right, "{begun} {ended}");
+}
+
+fn check_beside<R: Threads + Wait + Clock + Abort + Sync>(
+    rt: &R,
+    alloc: Global,
+    mode: RunMode<'static>,
+    input: &[u8],
+) {
+    let mut beside = Beside::new(alloc);
+    let told = carry_out(rt, alloc, mode, &InMemory, &mut beside, input);
+    assert!(rt;
+        told.0 == Ok(()) && beside.outcome == Some(told.0),
+        "{mode:?}"
+    );
+    assert!(rt; beside.processes == 3, "{mode:?}");
+    check_counts(rt, &beside, 1, 1);
 }
 
 // What is beside a run is made ready once, for the processes of the file, and is told how it ended.
 #[test]
 fn what_is_beside_a_run(rt: HostRuntime) {
+    let input = ring(&rt, rt.alloc(), 3, "");
     for (mode, _, _) in &FILES {
-        let input = ring(&rt, rt.alloc(), 3, "");
-        let mut beside = Beside::new(rt.alloc());
-        let told = carry_out(
-            &rt,
-            rt.alloc(),
-            *mode,
-            &InMemory,
-            &mut beside,
-            input.as_bytes(),
-        );
-        assert!(&rt;
-            told.0 == Ok(()) && beside.outcome == Some(told.0),
-            "{mode:?}"
-        );
-        assert_eq!(&rt;
-            (beside.begun, beside.processes, beside.ended),
-            (1, 3, 1),
-            "{mode:?}"
-        );
+        check_beside(&rt, rt.alloc(), *mode, input.as_bytes());
     }
 }
 
+// A run of this input in a mode is refused so, and nothing is written.
+fn check_refused<R: Threads + Wait + Clock + Abort + Sync>(
+    rt: &R,
+    alloc: Global,
+    mode: RunMode<'static>,
+    beside: &mut Beside,
+    (input, error): (&[u8], CommandError),
+) {
+    let told = carry_out(rt, alloc, mode, &InMemory, beside, input);
+    assert!(rt; told.0 == Err(error) && told.1.is_empty(), "{mode:?}");
+}
+
 // A file that is refused has nothing made ready, and where nothing can be made ready nothing runs.
+fn check_not_begun<R: Threads + Wait + Clock + Abort + Sync>(
+    rt: &R,
+    alloc: Global,
+    mode: RunMode<'static>,
+) {
+    let mut beside = Beside::new(alloc);
+    let faulty = (b"fuel 1\n".as_slice(), CommandError::EmptyScript);
+    check_refused(rt, alloc, mode, &mut beside, faulty);
+    check_counts(rt, &beside, 0, 0);
+    beside.refuses = true;
+    let whole = (TWICE.as_bytes(), CommandError::StoreFault);
+    check_refused(rt, alloc, mode, &mut beside, whole);
+    check_counts(rt, &beside, 1, 0);
+    assert!(rt; beside.file.is_empty(), "{mode:?}");
+}
+
 #[test]
 fn runs_that_are_not_begun(rt: HostRuntime) {
     for (mode, _, _) in &FILES {
-        let mut beside = Beside::new(rt.alloc());
-        let told = carry_out(&rt, rt.alloc(), *mode, &InMemory, &mut beside, b"fuel 1\n");
-        assert!(&rt;
-            told.0 == Err(CommandError::EmptyScript) && told.1.is_empty(),
-            "{mode:?}"
-        );
-        assert_eq!(&rt; (beside.begun, beside.ended), (0, 0), "{mode:?}");
-        beside.refuses = true;
-        let input = TWICE.as_bytes();
-        let told = carry_out(&rt, rt.alloc(), *mode, &InMemory, &mut beside, input);
-        assert!(&rt;
-            told.0 == Err(CommandError::StoreFault) && told.1.is_empty(),
-            "{mode:?}"
-        );
-        assert_eq!(&rt; (beside.begun, beside.ended), (1, 0), "{mode:?}");
-        assert!(&rt; beside.file.is_empty(), "{mode:?}");
+        check_not_begun(&rt, rt.alloc(), *mode);
     }
 }

@@ -85,7 +85,9 @@ fn failures<R: Threads + Wait + Clock + Abort + Sync>(
     let mut beside = Beside::new(alloc);
     let told = carry_out(rt, alloc, mode, &watched, &mut beside, TWICE.as_bytes());
     assert!(rt; told.0 == Ok(()), "{mode:?}");
-    watch.failures(rt, alloc).expect(rt, "memory")
+    let failures = watch.failures(rt, alloc).expect(rt, "memory");
+    drop(watch);
+    failures
 }
 
 // The line `kill` of the file comes in each mode, in those that are checked too.

@@ -100,9 +100,10 @@ static PLAYS: [(&[u8], u64, (&str, usize)); 11] = [
 ];
 
 // Returns whether the outputs of process 0 are the numbers of these.
-fn are_gathered(world: &World<MemStable>, senders: &[u8]) -> bool
-    requires { 1 ≤ length world.now.manager.recovery }
-{
+fn are_gathered(world: &World<MemStable>, senders: &[u8]) -> bool {
+    if world.manager().recovery().n() == 0 {
+        return false;
+    }
     let outputs = world.manager().released(Pid::at(0));
     if outputs.len() != senders.len() {
         return false;
@@ -125,10 +126,17 @@ fn told(
     requires { length images.now ≡ 4 }
 {
     let witnesses = gather_witnesses(alloc, senders, count)?;
-    match play(alloc, images, &witnesses) {
-        Ok(world) if are_gathered(&world, senders) => Ok(("", 0)),
-        Ok(_) => Ok(("order", 0)),
-        Err(fault) => Ok(fault_text(fault)),
+    let played = play(alloc, images, &witnesses);
+    let told = told_of(&played, senders);
+    drop(played);
+    Ok(told)
+}
+
+fn told_of(played: &Result<World<MemStable>, PlayFault>, senders: &[u8]) -> (&'static str, usize) {
+    match played {
+        Ok(world) if are_gathered(world, senders) => ("", 0),
+        Ok(_) => ("order", 0),
+        Err(fault) => fault_text(*fault),
     }
 }
 
@@ -252,9 +260,11 @@ fn gathered(alloc: Global, images: &[Image]) -> Result<Report, CommandError>
     requires { length images.now ≡ 4 }
 {
     let witnesses = gather_witnesses(alloc, &[1, 2], 1_000)?;
-    let world = play(alloc, images, &witnesses).map_err(|_| CommandError::NoMemory)?;
     let statuses = vec![in alloc; Status::Ended(0); 4]?;
-    Ok(Report::of(alloc, world.manager(), statuses)?)
+    let world = play(alloc, images, &witnesses).map_err(|_| CommandError::NoMemory)?;
+    let report = Report::of(alloc, world.manager(), statuses);
+    drop(world);
+    Ok(report?)
 }
 
 // The check of a report that is altered so, by a witness with these senders.
@@ -268,10 +278,12 @@ fn checked(
     requires images { length images.now ≡ 4 }
     requires some { 1 ≤ length programs.now.processes }
 {
+    let witnesses = gather_witnesses(alloc, senders, 1_000)?;
     let mut report = gathered(alloc, images)?;
     spoil(alloc, &mut report, how);
-    let witnesses = gather_witnesses(alloc, senders, 1_000)?;
-    checked_text(alloc, BytesForm::Hex, programs, &report, &witnesses)
+    let text = checked_text(alloc, BytesForm::Hex, programs, &report, &witnesses);
+    drop(report);
+    text
 }
 
 fn check_checks(rt: &impl Abort, alloc: Global, programs: &Programs, images: &[Image])
@@ -294,4 +306,5 @@ fn reports_that_are_altered(rt: HostRuntime) {
     let programs = programs_of(&rt, rt.alloc(), GATHER);
     assert!(&rt; programs.n() == 4);
     check_checks(&rt, rt.alloc(), &programs, &images);
+    drop(programs);
 }

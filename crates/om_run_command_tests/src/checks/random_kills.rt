@@ -106,10 +106,15 @@ fn kills_are_drawn_in_place_of_lines(rt: HostRuntime) {
     for p in 0..5 {
         assert!(&rt; count_of(&kills, p) > 0);
     }
-    assert!(&rt; count_between(&kills, 0, 1_024) == 64);
-    assert!(&rt; count_between(&kills, 0, 4) > 0);
-    assert!(&rt; count_between(&kills, 64, 1_024) > 0);
+    check_places(&rt, &kills);
     assert!(&rt; drawn(&rt, alloc, 0, 1).is_empty());
+}
+
+// All of 64 kills lie below interval 1,024, some early and some late.
+fn check_places(rt: &impl Abort, kills: &[(usize, u32)]) {
+    assert!(rt; count_between(kills, 0, 1_024) == 64);
+    assert!(rt; count_between(kills, 0, 4) > 0);
+    assert!(rt; count_between(kills, 64, 1_024) > 0);
 }
 
 #[test]

@@ -63,13 +63,22 @@ fn records_are_played(rt: HostRuntime) {
     for (n, more, comments) in &RINGS {
         let input = ring(&rt, rt.alloc(), *n, more);
         let script = recorded(&rt, rt.alloc(), &InMemory, &input, *n);
-        for comment in *comments {
-            assert!(rt; script.contains(comment), "{comment}");
-        }
-        assert!(rt; !script.contains("\nspell "), "{script}");
-        let told = played(&rt, rt.alloc(), &script);
-        check_end(&rt, rt.alloc(), &told, *n);
+        check_contains(&rt, &script, comments);
+        assert!(&rt; !script.contains("\nspell "), "{script}");
+        check_played(&rt, rt.alloc(), &script, *n);
     }
+}
+
+fn check_contains(rt: &impl Abort, script: &str, comments: &[&str]) {
+    for comment in comments {
+        assert!(rt; script.contains(comment), "{comment}");
+    }
+}
+
+// What is played of a record comes to the end of the ring.
+fn check_played(rt: &impl Abort, alloc: Global, script: &str, n: u32) {
+    let told = played(rt, alloc, script);
+    check_end(rt, alloc, &told, n);
 }
 
 // Where threads of their own write the stores, a checkpoint is spelled as it is handed over: that of each first receipt here.
@@ -79,11 +88,15 @@ fn records_of_flights_are_played(rt: HostRuntime) {
         let more = format!(in rt.alloc(); "{more}checkpoint 1\n").expect(&rt, "memory");
         let input = ring(&rt, rt.alloc(), *n, &more);
         let script = recorded(&rt, rt.alloc(), &Apart, &input, *n);
-        assert!(rt; script.contains("\nspell "), "{script}");
-        assert!(rt; !script.contains("\ncheckpoint "), "{script}");
-        let told = played(&rt, rt.alloc(), &script);
-        check_end(&rt, rt.alloc(), &told, *n);
+        check_spelled(&rt, &script);
+        check_played(&rt, rt.alloc(), &script, *n);
     }
+}
+
+// Checkpoints are spelled, and not stored in one go.
+fn check_spelled(rt: &impl Abort, script: &str) {
+    let is_spelled = script.contains("\nspell ") && !script.contains("\ncheckpoint ");
+    assert!(rt; is_spelled, "{script}");
 }
 
 // What is checked of a run, and the text of a run that is checked, is that of any run there too.
@@ -91,14 +104,24 @@ fn records_of_flights_are_played(rt: HostRuntime) {
 fn flights_are_checked(rt: HostRuntime) {
     for mode in [RunMode::Plain, RunMode::Check, RunMode::Witness] {
         for (n, more, _) in &RINGS {
-            let input = ring(&rt, rt.alloc(), *n, more);
-            let mut beside = Beside::new(rt.alloc());
-            let told = carry_out(&rt, rt.alloc(), mode, &Apart, &mut beside, input.as_bytes());
-            let ends = ring_ends(&rt, rt.alloc(), *n);
-            assert!(&rt; told.0 == Ok(()), "{mode:?}");
-            assert!(&rt; told.1.as_slice() == ends.as_bytes(), "{mode:?}");
+            check_flight(&rt, rt.alloc(), mode, (*n, *more));
         }
     }
+}
+
+// The text of a ring of n processes whose stores are written by threads of their own.
+fn check_flight<R: Threads + Wait + Clock + Abort + Sync>(
+    rt: &R,
+    alloc: Global,
+    mode: RunMode<'static>,
+    (n, more): (u32, &str),
+) {
+    let input = ring(rt, alloc, n, more);
+    let mut beside = Beside::new(alloc);
+    let told = carry_out(rt, alloc, mode, &Apart, &mut beside, input.as_bytes());
+    let ends = ring_ends(rt, alloc, n);
+    let is_right = told.0 == Ok(()) && told.1.as_slice() == ends.as_bytes();
+    assert!(rt; is_right, "{mode:?}");
 }
 
 // The record of a ring of n processes that is run with this cluster file, whose text is that of any run.
@@ -150,10 +173,15 @@ fn check_end(rt: &impl Abort, alloc: Global, told: &str, n: u32) {
         if let Some(end) = line.strip_prefix("end ") {
             check_process(rt, alloc, told, end);
         } else {
-            let output = format!(in alloc; "\n{line}\n").expect(rt, "memory");
-            assert!(rt; told.contains(output.as_str()), "{line}");
+            check_line(rt, alloc, told, line);
         }
     }
+}
+
+// What was told has the line.
+fn check_line(rt: &impl Abort, alloc: Global, told: &str, line: &str) {
+    let whole = format!(in alloc; "\n{line}\n").expect(rt, "memory");
+    assert!(rt; told.contains(whole.as_str()), "{line}");
 }
 
 // A line of what was told says that the process has ended so.

@@ -62,15 +62,52 @@ fn write<S: Ledger>(
     made(rt, alloc, store, Call::Write(batch))
 }
 
+// Writes a batch that collides with nothing.
+fn write_well<S: Ledger>(rt: &impl Abort, alloc: Global, store: &mut S, batch: Batch) {
+    write(rt, alloc, store, batch).expect(rt, "written");
+}
+
 fn fill<S: Ledger>(rt: &impl Abort, alloc: Global, store: &mut S) {
-    assert_eq!(rt; super::fill(alloc, store), Ok(()));
+    super::fill(alloc, store).expect(rt, "stored");
     let first = Batch {
         receipts: (1, 3),
         outputs: (0, 2),
         senders: (0, 1),
         ..NOTHING
     };
-    assert_eq!(rt; write(rt, alloc, store, first), Ok(()));
+    write_well(rt, alloc, store, first);
+}
+
+// Asserts that the store has receipts of these intervals, each with its bytes.
+fn check_receipts<S: Ledger>(rt: &impl Abort, alloc: Global, store: &mut S, receipts: &[u32]) {
+    let found = store.receipts(alloc, 0, u32::MAX).ok().expect(rt, "read");
+    assert!(rt; found.len() == receipts.len());
+    for ((x, bytes), want) in found.iter().zip(receipts) {
+        assert!(rt; *x == *want, "receipt {want}");
+        let is_whole = bytes.as_slice() == u64::from(*want).to_le_bytes().as_slice();
+        assert!(rt; is_whole, "receipt {want}");
+    }
+}
+
+// Asserts that the store has checkpoints of these intervals among 0 to 9.
+fn check_checkpoints<S: Ledger>(
+    rt: &impl Abort,
+    alloc: Global,
+    store: &mut S,
+    checkpoints: &[u32],
+) {
+    let mut newest = None;
+    for x in 0..10u32 {
+        if checkpoints.contains(&x) {
+            newest = Some(x);
+        }
+        let held = held_at(alloc, store, x);
+        assert!(rt; held == newest, "checkpoint at {x}");
+    }
+}
+
+fn held_at<S: Ledger>(alloc: Global, store: &mut S, x: u32) -> Option<u32> {
+    store.effective(alloc, x).ok().flatten().map(|(c, _)| c)
 }
 
 // Asserts that the store has receipts of these intervals, each with its bytes, and checkpoints of these among 0 to 9.
@@ -81,20 +118,8 @@ fn check<S: Ledger>(
     receipts: &[u32],
     checkpoints: &[u32],
 ) {
-    let found = store.receipts(alloc, 0, u32::MAX).ok().expect(rt, "read");
-    assert_eq!(rt; found.len(), receipts.len());
-    for ((x, bytes), want) in found.iter().zip(receipts) {
-        assert_eq!(rt; *x, *want);
-        assert_eq!(rt; bytes.as_slice(), u64::from(*want).to_le_bytes().as_slice());
-    }
-    let mut newest = None;
-    for x in 0..10u32 {
-        if checkpoints.contains(&x) {
-            newest = Some(x);
-        }
-        let held = store.effective(alloc, x).ok().flatten().map(|(c, _)| c);
-        assert_eq!(rt; held, newest, "checkpoint at {x}");
-    }
+    check_receipts(rt, alloc, store, receipts);
+    check_checkpoints(rt, alloc, store, checkpoints);
 }
 
 fn check_tables<S: Ledger>(
@@ -108,23 +133,38 @@ fn check_tables<S: Ledger>(
     check_table(rt, alloc, store, LedgerTable::Senders, senders);
 }
 
+// A batch that collides is refused, and leaves all records as they were.
+fn check_taken<S: Ledger>(rt: &impl Abort, alloc: Global, store: &mut S, batch: Batch) {
+    let refused = write(rt, alloc, store, batch);
+    assert_eq!(rt; refused, Err(StoreError::Present));
+    check(rt, alloc, store, &[1, 2, 3], &[0, 2]);
+}
+
+// Writes the batch with something of each kind.
+fn check_whole<S: Ledger>(rt: &impl Abort, alloc: Global, store: &mut S) {
+    write_well(rt, alloc, store, WHOLE);
+    check(rt, alloc, store, &[3, 4, 5, 6], &[2, 6]);
+}
+
+// Then the others are written.
+fn check_others<S: Ledger>(rt: &impl Abort, alloc: Global, store: &mut S) {
+    write_well(rt, alloc, store, NOTHING);
+    check(rt, alloc, store, &[3, 4, 5, 6], &[2, 6]);
+    write_well(rt, alloc, store, PRUNED);
+    check(rt, alloc, store, &[], &[9]);
+    check_tables(rt, alloc, store, &[0, 1, 2, 3], &[0, 1]);
+}
+
 // Each batch that collides leaves all as it was; then the others are written.
 fn play<S: Ledger>(rt: &impl Abort, alloc: Global, store: &mut S) {
     fill(rt, alloc, store);
     for batch in &TAKEN {
-        let refused = write(rt, alloc, store, *batch);
-        assert_eq!(rt; refused, Err(StoreError::Present));
-        check(rt, alloc, store, &[1, 2, 3], &[0, 2]);
+        check_taken(rt, alloc, store, *batch);
         check_tables(rt, alloc, store, &[0, 1], &[0]);
     }
-    assert_eq!(rt; write(rt, alloc, store, WHOLE), Ok(()));
-    check(rt, alloc, store, &[3, 4, 5, 6], &[2, 6]);
+    check_whole(rt, alloc, store);
     check_tables(rt, alloc, store, &[0, 1, 2, 3], &[0, 1]);
-    assert_eq!(rt; write(rt, alloc, store, NOTHING), Ok(()));
-    check(rt, alloc, store, &[3, 4, 5, 6], &[2, 6]);
-    assert_eq!(rt; write(rt, alloc, store, PRUNED), Ok(()));
-    check(rt, alloc, store, &[], &[9]);
-    check_tables(rt, alloc, store, &[0, 1, 2, 3], &[0, 1]);
+    check_others(rt, alloc, store);
 }
 
 #[test]
@@ -136,6 +176,7 @@ fn batches_in_memory(rt: HostRuntime) {
 fn batches_behind_a_cache(rt: HostRuntime) {
     let mut store = CachingLedger::new(MemLedger::new(rt.alloc()));
     play(&rt, rt.alloc(), &mut store);
+    drop(store);
 }
 
 #[test]
@@ -143,18 +184,16 @@ fn batches_in_five_tables(rt: HostRuntime) {
     let alloc = rt.alloc();
     let mut store = expected(&rt, taken_up(&rt, alloc, connected(&rt, alloc)));
     play(&rt, alloc, &mut store);
+    drop(store);
 }
 
 // A store without tables passes over outputs and senders, and looks at the rest.
 fn play_without_tables<S: Ledger>(rt: &impl Abort, alloc: Global, store: &mut S) {
     fill(rt, alloc, store);
     for batch in &TAKEN[..2] {
-        let refused = write(rt, alloc, store, *batch);
-        assert_eq!(rt; refused, Err(StoreError::Present));
-        check(rt, alloc, store, &[1, 2, 3], &[0, 2]);
+        check_taken(rt, alloc, store, *batch);
     }
-    assert_eq!(rt; write(rt, alloc, store, WHOLE), Ok(()));
-    check(rt, alloc, store, &[3, 4, 5, 6], &[2, 6]);
+    check_whole(rt, alloc, store);
     check_tables(rt, alloc, store, &[], &[]);
 }
 
@@ -177,11 +216,13 @@ fn batches_in_two_tables(rt: HostRuntime) {
 // A fuse stops a batch, which leaves all as it was.
 #[test]
 fn a_batch_behind_a_fuse(rt: HostRuntime) {
-    let mut inner = MemLedger::new(rt.alloc());
-    fill(&rt, rt.alloc(), &mut inner);
+    let alloc = rt.alloc();
+    let mut inner = MemLedger::new(alloc);
+    fill(&rt, alloc, &mut inner);
     let mut store = FuseStable::new(inner, 0);
-    let stopped = write(&rt, rt.alloc(), &mut store, WHOLE);
-    assert_eq!(rt; stopped, Err(StoreError::Fault));
-    check(&rt, rt.alloc(), &mut store, &[1, 2, 3], &[0, 2]);
-    assert_eq!(rt; write(&rt, rt.alloc(), &mut store, WHOLE), Ok(()));
+    let stopped = write(&rt, alloc, &mut store, WHOLE);
+    assert!(&rt; stopped == Err(StoreError::Fault));
+    check(&rt, alloc, &mut store, &[1, 2, 3], &[0, 2]);
+    write_well(&rt, alloc, &mut store, WHOLE);
+    drop(store);
 }

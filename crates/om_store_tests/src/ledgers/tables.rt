@@ -1,7 +1,7 @@
 //! Ledgers over tables in memory, and which databases are taken up.
 
-use super::{Call, ROWS, check_table, made, play};
-use om_stable::{LedgerTable, Stable};
+use super::{PUT, ROWS, check_table, made, play};
+use om_stable::{Ledger, LedgerTable, Stable};
 use om_tables::{SqlLedger, SqlStable, TablesError};
 use sqlite::{Alter, Connection, MemStore};
 use std::alloc::Global;
@@ -43,21 +43,36 @@ fn refused<S: Alter + Drop>(
     }
 }
 
+// Plays the rows over the connection, which is handed back.
+fn played_over<S: Alter + Drop>(
+    rt: &impl Abort,
+    alloc: Global,
+    conn: Connection<S>,
+) -> Connection<S> {
+    let mut store = expected(rt, taken_up(rt, alloc, conn));
+    play(rt, alloc, &mut store);
+    assert!(rt; store.failures() == 0);
+    store.into_connection()
+}
+
+// What is there behind the rows.
+fn check_played<S: Ledger>(rt: &impl Abort, alloc: Global, store: &mut S) {
+    let (_, _, outputs, senders) = ROWS[ROWS.len() - 1];
+    check_table(rt, alloc, store, LedgerTable::Outputs, outputs);
+    check_table(rt, alloc, store, LedgerTable::Senders, senders);
+    check_table(rt, alloc, store, LedgerTable::About, &[0]);
+    let held = store.effective(alloc, 2).ok().flatten().map(|(x, _)| x);
+    assert!(rt; held == Some(2));
+}
+
 // The rows over five tables, which are then taken up again with all that they hold.
 #[test]
 fn ledgers_in_tables(rt: HostRuntime) {
     let alloc = rt.alloc();
-    let mut store = expected(&rt, taken_up(&rt, alloc, connected(&rt, alloc)));
-    play(&rt, alloc, &mut store);
-    assert_eq!(rt; store.failures(), 0);
-    let conn = store.into_connection();
+    let conn = played_over(&rt, alloc, connected(&rt, alloc));
     let mut store = expected(&rt, taken_up(&rt, alloc, conn));
-    let (_, _, outputs, senders) = ROWS[ROWS.len() - 1];
-    check_table(&rt, alloc, &mut store, LedgerTable::Outputs, outputs);
-    check_table(&rt, alloc, &mut store, LedgerTable::Senders, senders);
-    check_table(&rt, alloc, &mut store, LedgerTable::About, &[0]);
-    let held = store.effective(alloc, 2).ok().flatten().map(|(x, _)| x);
-    assert_eq!(rt; held, Some(2));
+    check_played(&rt, alloc, &mut store);
+    drop(store);
 }
 
 // Five tables in another order.
@@ -77,14 +92,15 @@ fn tables_in_another_order_are_taken_up(rt: HostRuntime) {
         assert!(rt; conn.execute(statement, &[]).is_ok());
     }
     let mut store = expected(&rt, taken_up(&rt, alloc, conn));
-    let put = made(
-        &rt,
-        alloc,
-        &mut store,
-        Call::Put(LedgerTable::Outputs, 0, 2),
-    );
-    assert_eq!(rt; put, Ok(()));
+    let put = made(&rt, alloc, &mut store, PUT);
+    put.expect(&rt, "stored");
     check_table(&rt, alloc, &mut store, LedgerTable::Outputs, &[0, 1]);
+    drop(store);
+}
+
+fn check_not_taken_up<S: Alter + Drop>(rt: &impl Abort, alloc: Global, conn: Connection<S>) {
+    let (error, _conn) = refused(rt, taken_up(rt, alloc, conn));
+    assert_eq!(rt; error, TablesError::NoTables);
 }
 
 // What is made beside the tables, or in place of one: such a database is not taken up, and is handed back as it was.
@@ -101,8 +117,7 @@ fn other_tables_are_not_taken_up(rt: HostRuntime) {
         let store = expected(&rt, taken_up(&rt, alloc, connected(&rt, alloc)));
         let mut conn = store.into_connection();
         assert!(rt; conn.execute(statement, &[]).is_ok());
-        let (error, _conn) = refused(&rt, taken_up(&rt, alloc, conn));
-        assert_eq!(rt; error, TablesError::NoTables);
+        check_not_taken_up(&rt, alloc, conn);
     }
 }
 
@@ -115,6 +130,5 @@ fn two_tables_are_not_taken_up(rt: HostRuntime) {
     let Ok(store) = SqlStable::create(alloc, conn) else {
         panic!(rt; "not made");
     };
-    let (error, _conn) = refused(&rt, taken_up(&rt, alloc, store.into_connection()));
-    assert_eq!(rt; error, TablesError::NoTables);
+    check_not_taken_up(&rt, alloc, store.into_connection());
 }

@@ -19,31 +19,66 @@ pub(super) fn play_in_tables(rt: &impl Abort, alloc: Global, rows: &[Row]) {
 fn play_over<S: Alter + Drop>(rt: &impl Abort, alloc: Global, conn: Connection<S>, rows: &[Row]) {
     let mut store = expected(rt, store_over(rt, alloc, conn, true));
     play_whole(rt, alloc, &mut store, rows);
+    drop(store);
 }
 
-fn effective_below_9<S: Stable>(alloc: Global, store: &mut S) -> Option<(u32, Vec<u8>)> {
-    store.effective(alloc, 9).ok()?
+// Where no store is, none is taken.
+fn check_missing<S: Alter + Drop>(
+    rt: &impl Abort,
+    alloc: Global,
+    conn: Connection<S>,
+) -> Connection<S> {
+    let (missing, conn) = refused(rt, store_over(rt, alloc, conn, false));
+    assert_eq!(rt; missing, TablesError::NoTables);
+    conn
+}
+
+// Where there are tables, none are made.
+fn check_present<S: Alter + Drop>(
+    rt: &impl Abort,
+    alloc: Global,
+    conn: Connection<S>,
+) -> Connection<S> {
+    let (present, conn) = refused(rt, store_over(rt, alloc, conn, true));
+    assert_eq!(rt; present, TablesError::Present);
+    conn
+}
+
+fn put_at_7<S: Stable>(rt: &impl Abort, alloc: Global, store: &mut S) {
+    let put = store.put_checkpoint(alloc, 7, b"at 7");
+    put.expect(rt, "stored");
+}
+
+fn check_at_7<S: Stable>(rt: &impl Abort, alloc: Global, store: &mut S) {
+    let found = store.effective(alloc, 9).ok().flatten();
+    let (x, bytes) = found.expect(rt, "a checkpoint");
+    assert_eq!(rt; (x, bytes.as_slice()), (7, b"at 7".as_slice()));
+    assert!(rt; store.failures() == 0);
+}
+
+// Makes a store with a checkpoint over the connection, which is handed back.
+fn made_with_one<S: Alter + Drop>(
+    rt: &impl Abort,
+    alloc: Global,
+    conn: Connection<S>,
+) -> Connection<S> {
+    let mut store = expected(rt, store_over(rt, alloc, conn, true));
+    put_at_7(rt, alloc, &mut store);
+    store.into_connection()
+}
+
+fn check_taken_with_one<S: Alter + Drop>(rt: &impl Abort, alloc: Global, conn: Connection<S>) {
+    let mut store = expected(rt, store_over(rt, alloc, conn, false));
+    check_at_7(rt, alloc, &mut store);
+    drop(store);
 }
 
 // A connection that is handed back still works: each is taken by the other call.
 fn check_once<S: Alter + Drop>(rt: &impl Abort, alloc: Global, conn: Connection<S>) {
-    let (missing, conn) = refused(rt, store_over(rt, alloc, conn, false));
-    let mut store = expected(rt, store_over(rt, alloc, conn, true));
-    let put = store.put_checkpoint(alloc, 7, b"at 7");
-    let (present, conn) = refused(rt, store_over(rt, alloc, store.into_connection(), true));
-    let mut store = expected(rt, store_over(rt, alloc, conn, false));
-    let found = effective_below_9(alloc, &mut store);
-    let found = found.as_ref().map(|(x, bytes)| (*x, bytes.as_slice()));
-    assert_eq!(rt;
-        (missing, put, present, store.failures(), found),
-        (
-            TablesError::NoTables,
-            Ok(()),
-            TablesError::Present,
-            0,
-            Some((7, b"at 7".as_slice()))
-        )
-    );
+    let conn = check_missing(rt, alloc, conn);
+    let conn = made_with_one(rt, alloc, conn);
+    let conn = check_present(rt, alloc, conn);
+    check_taken_with_one(rt, alloc, conn);
 }
 
 #[test]
@@ -91,12 +126,8 @@ fn check_others<S: Alter + Drop>(
     for statement in statements {
         assert!(rt; statement.is_empty() || conn.execute(statement, &[]).is_ok());
     }
-    let (missing, conn) = refused(rt, store_over(rt, alloc, conn, false));
-    let (present, _conn) = refused(rt, store_over(rt, alloc, conn, true));
-    assert_eq!(rt;
-        (missing, present),
-        (TablesError::NoTables, TablesError::Present)
-    );
+    let conn = check_missing(rt, alloc, conn);
+    let _conn = check_present(rt, alloc, conn);
 }
 
 #[test]
