@@ -9,7 +9,8 @@ pub const MAX_PROCESSES: usize = 16;
 /// The number of a process: from 0, below the limit of processes.
 #[derive(Clone, Copy, Debug, PartialEq, Eq, Hash, PartialOrd, Ord)]
 pub struct Pid {
-    index: usize,
+    // A byte, since each message has two of them.
+    index: u8,
 }
 
 impl Model for Pid {
@@ -30,7 +31,7 @@ impl Pid {
     {
         let index = number as usize;
         if index < MAX_PROCESSES {
-            Some(Pid { index })
+            Some(Pid { index: index as u8 })
         } else {
             None
         }
@@ -41,7 +42,7 @@ impl Pid {
         requires { index < MAX_PROCESSES }
         ensures { result ≡ index }
     {
-        Self { index }
+        Self { index: index as u8 }
     }
 
     /// The place of this process in vectors.
@@ -49,6 +50,6 @@ impl Pid {
         ensures place { result ≡ self }
         ensures in_range { result < MAX_PROCESSES }
     {
-        self.index
+        self.index as usize
     }
 }
