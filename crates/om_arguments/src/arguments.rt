@@ -130,13 +130,39 @@ pub struct Asked<'a> {
 /// mistake, a help text or the version that was asked for, or out of memory.
 pub fn parse<'a, S: AsStr>(alloc: Global, words: &'a [S]) -> Result<Asked<'a>, Error> {
     let mut command = command(alloc)?;
+    let asked = parse_by(alloc, &mut command, words);
+    drop(command);
+    asked
+}
+
+// Returns the same by this command.
+fn parse_by<'a, S: AsStr>(
+    alloc: Global,
+    command: &mut Command<'a>,
+    words: &'a [S],
+) -> Result<Asked<'a>, Error> {
     let matches = command.try_get_matches_from_mut(words)?;
-    let Some((name, found)) = matches.subcommand() else {
-        return Err(no_subcommand(&mut command));
-    };
-    let Some(subcommand) = subcommand_of(name) else {
-        return Err(no_subcommand(&mut command));
-    };
+    let asked = asked_of(alloc, &matches);
+    drop(matches);
+    match asked {
+        Some(asked) => asked,
+        None => Err(no_subcommand(command)),
+    }
+}
+
+// Returns what is asked for, where a subcommand is.
+fn asked_of<'a>(alloc: Global, matches: &ArgMatches<'a>) -> Option<Result<Asked<'a>, Error>> {
+    let (name, found) = matches.subcommand()?;
+    let subcommand = subcommand_of(name)?;
+    Some(asked_in(alloc, subcommand, found))
+}
+
+// Returns what is asked for by the words of a subcommand.
+fn asked_in<'a>(
+    alloc: Global,
+    subcommand: Subcommand,
+    found: &ArgMatches<'a>,
+) -> Result<Asked<'a>, Error> {
     match request_of(subcommand, found) {
         Ok(request) => Ok(Asked {
             request,

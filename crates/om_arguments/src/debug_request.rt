@@ -6,6 +6,7 @@ ghost use Rattle.om_arguments.specs.steps.Requests.{asked_by};
 ghost use Rattle.om_arguments.specs.declared.arguments.Subcommand.{Subcommand};
 
 use crate::arguments::{Request, STANDARD_STREAM};
+use crate::building::with_arg;
 use crate::commands::INPUT;
 use crate::mistake::{Mistake, needed, number_for};
 use clap::{Arg, ArgAction, ArgMatches, Command};
@@ -190,18 +191,21 @@ pub(crate) fn symbols_of<'a>(
 }
 
 pub(crate) fn debug_command<'a>(alloc: Global) -> Result<Command<'a>, AllocError> {
-    let record = Arg::new(alloc, INPUT)
-        .value_name("RECORD")
-        .help("The record, a script of sim")
-        .required(true);
-    Command::new(alloc, DEBUG)
+    let command = Command::new(alloc, DEBUG)
         .about("A process of a record under gdb, forward and back")
         .override_usage(USAGE)
         .after_long_help(DEBUG_HELP)
-        .arg(process_option(alloc))?
-        .arg(elf_option(alloc)?)?
-        .arg(store_option(alloc)?)?
-        .arg(record)
+        .arg(process_option(alloc))?;
+    let command = with_arg(command, elf_option(alloc))?;
+    let command = with_arg(command, store_option(alloc))?;
+    command.arg(record_argument(alloc))
+}
+
+fn record_argument<'a>(alloc: Global) -> Arg<'a> {
+    Arg::new(alloc, INPUT)
+        .value_name("RECORD")
+        .help("The record, a script of sim")
+        .required(true)
 }
 
 fn process_option<'a>(alloc: Global) -> Arg<'a> {
