@@ -73,7 +73,7 @@ pub enum Request<'a> {
 pub struct Running<'a> {
     /// The most turns of each worker.
     pub turns: u64,
-    /// Of the files of its stores; without one they are in memory.
+    /// The prefix of the files of its stores; without one they are in memory.
     pub prefix: Option<&'a str>,
     /// Whether the run goes on from its stores where there are any.
     pub resumes: bool,

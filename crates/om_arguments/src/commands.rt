@@ -348,7 +348,7 @@ pub(crate) fn command<'a>(alloc: Global) -> Result<Command<'a>, AllocError> {
     with_clusters(alloc, with_scripts(alloc, command)?)
 }
 
-// With the subcommands that read words, records or events.
+// Adds the subcommands that read words, records or events.
 fn with_scripts<'a>(alloc: Global, command: Command<'a>) -> Result<Command<'a>, AllocError> {
     command
         .subcommand(command_of(alloc, Subcommand::Decode)?)?
@@ -358,7 +358,7 @@ fn with_scripts<'a>(alloc: Global, command: Command<'a>) -> Result<Command<'a>, 
         .subcommand(command_of(alloc, Subcommand::Draw)?)
 }
 
-// With those that run clusters, and look into what they stored.
+// Adds the subcommands that run clusters, and look into what they stored.
 fn with_clusters<'a>(alloc: Global, command: Command<'a>) -> Result<Command<'a>, AllocError> {
     command
         .subcommand(command_of(alloc, Subcommand::Run)?)?
@@ -447,12 +447,12 @@ fn run_command<'a>(alloc: Global) -> Result<Command<'a>, AllocError> {
     with_forms(alloc, with_kills(alloc, command)?)
 }
 
-// With the options that say which processes are to fail.
+// Adds the options that say which processes are to fail.
 fn with_kills<'a>(alloc: Global, command: Command<'a>) -> Result<Command<'a>, AllocError> {
     command.arg(kills_option(alloc))?.arg(seed_option(alloc)?)
 }
 
-// With the options that say how outputs are written, and what is a failure.
+// Adds the options that say how outputs are written, and what is a failure.
 fn with_forms<'a>(alloc: Global, command: Command<'a>) -> Result<Command<'a>, AllocError> {
     command
         .arg(text_option(alloc))?
@@ -460,12 +460,12 @@ fn with_forms<'a>(alloc: Global, command: Command<'a>) -> Result<Command<'a>, Al
         .arg(strict_option(alloc))
 }
 
-// With the options that check a run.
+// Adds the options that check a run.
 fn with_checks<'a>(alloc: Global, command: Command<'a>) -> Result<Command<'a>, AllocError> {
     command.arg(check_option(alloc))?.arg(witness_option(alloc))
 }
 
-// With the options that say what happened in a run.
+// Adds the options that say what happened in a run.
 fn with_tellings<'a>(alloc: Global, command: Command<'a>) -> Result<Command<'a>, AllocError> {
     command
         .arg(record_option(alloc)?)?

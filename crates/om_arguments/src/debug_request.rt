@@ -99,7 +99,7 @@ pub struct SymbolFile<'a> {
     pub file: &'a str,
 }
 
-// The request to show a process of a record, or all, or the process of a store.
+// Makes the request to show a process of a record, or all, or the process of a store.
 pub(crate) fn debug_request<'a>(found: &ArgMatches<'a>) -> Result<Request<'a>, Mistake<'a>>
     ensures { IfOk result (λ request. asked_by request ≡ Subcommand.Debug) }
 {

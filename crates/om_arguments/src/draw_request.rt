@@ -35,7 +35,7 @@ pub struct Lines {
     pub to: usize,
 }
 
-// The window between two lines, where they are numbers.
+// Reads the window between two lines, where they are numbers.
 pub(crate) fn lines_of<'a>(found: &ArgMatches<'a>) -> Result<Lines, Mistake<'a>> {
     Ok(Lines {
         from: line_of("--from <LINE>", found.get_str(FROM), 0)?,

@@ -84,7 +84,7 @@ pub struct Exploring<'a> {
     pub all: bool,
     /// The most turns of each process.
     pub turns: u64,
-    /// Of the files of the runs that each different text came of first.
+    /// The prefix of the files of the runs that each different text came of first.
     pub witnesses: Option<&'a str>,
     /// How the bytes of outputs are written in which texts differ.
     pub form: OutputForm,
