@@ -55,7 +55,7 @@ pub struct SenderSet {
 }
 
 impl SenderSet {
-    /// Marks none.
+    /// Marks no process.
     pub fn none() -> SenderSet {
         SenderSet { bits: 0 }
     }
@@ -173,7 +173,7 @@ impl Bell {
     }
 }
 
-/// Rings all.
+/// Rings all bells.
 pub fn ring_all(bells: &[Bell]) {
     for bell in bells {
         bell.ring();
