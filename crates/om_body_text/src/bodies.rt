@@ -38,7 +38,7 @@ pub fn bodies_text<S: Stable>(
     Ok(text)
 }
 
-// All receipts.
+// Reads all receipts.
 fn receipts_of<S: Stable>(alloc: Global, store: &mut S) -> Result<Vec<(u32, Vec<u8>)>, LookFault>
     ensures found { IsCleanCall S.is_clean S.IsSound store.old store.new
         → IfOk result (λ found. rows_of found.items ≡ between (S.content store.old).receipts 0 LAST_INTERVAL) }
