@@ -75,7 +75,7 @@ fn next_at(
     }
 }
 
-// The next delivery in a world of so many processes: none where all that can be received is excluded.
+// Returns the next delivery in a world of so many processes: none where all that can be received is excluded.
 pub(crate) fn next_delivery(
     world: &World<MemStable>,
     walk: &Walk,

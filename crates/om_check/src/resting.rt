@@ -17,7 +17,7 @@ use om_process::{ProcCore, Status};
 use om_stable::MemStable;
 use om_world::World;
 
-// The process, which is up.
+// Returns the process where it is up, and refuses where it is not.
 pub(crate) fn up(world: &World<MemStable>, pid: Pid) -> Result<&ProcCore, PlayFault>
     ensures core { IfOk result (λ core. slice_get world.now.cores pid ≡ Some (Some core.now)) }
     ensures own { IfOk result (λ core. core.now.own ≡ pid) }
