@@ -11,7 +11,7 @@ ghost use Rattle.om_world.specs.declared.event.Event.{Event};
 use om_text::{LineError, long_number_of, number_of};
 use om_world::Event;
 
-// The event of a line, by its first word and those behind it.
+// Reads the event of a line, by its first word and those behind it.
 pub(crate) fn event_of(first: &[u8], words: &[&[u8]]) -> Result<Event, LineError>
     ensures { result ≡ event_line first.now (map (λ word. word.now) words.now) }
 {

@@ -71,7 +71,7 @@ fn answer(alloc: Global, form: BytesForm, script: &SimScript) -> Result<String, 
     Ok(told(alloc, form, script, &mut world)?)
 }
 
-/// The world of these programs at its start, over stores that hold nothing. Refused where memory runs out.
+/// Makes the world of these programs at its start, over stores that hold nothing. Refused where memory runs out.
 pub fn start(alloc: Global, programs: &Programs) -> Result<World<MemStable>, AllocError>
     requires some { 1 ≤ length programs.now.processes }
     requires few { length programs.now.processes ≤ MAX_PROCESSES }
@@ -100,7 +100,7 @@ fn told(
     Ok(text)
 }
 
-// So many stores that hold nothing.
+// Makes `n` stores that hold nothing.
 fn empty_stores(alloc: Global, n: usize) -> Result<Vec<MemStable>, AllocError>
     ensures number { IfOk result (λ stores. length stores.items ≡ n) }
     ensures empty { IfOk result (λ stores. All IsEmpty stores.items) }

@@ -15,7 +15,8 @@ use std::fmt::Write;
 /// The bytes of memory on one line.
 pub const ROW_BYTES: usize = 16;
 
-/// The text of a process: its interval, its count of instructions, pc, registers and memory, and what it is about to do.
+/// Makes the text of a process: its interval, its count of instructions, pc, registers and memory, and what it is about
+/// to do.
 pub fn state_text(alloc: Global, core: &ProcCore) -> Result<String, AllocError>
     ensures { IfOk result (λ text. string_bytes text ≡ written_state core.now) }
 {
