@@ -175,7 +175,7 @@ impl Debugger {
         }
     }
 
-    // Where time and the process stand, as it is told.
+    // Returns where time and the process stand, as it is told.
     fn said_where(&self) -> Result<Reply, PlayFault>
         ensures said { IfOk result (λ told. IsSaid (where_text self.now) told) }
         ensures last { IfOk result (λ told. is_last told ≡ false) }

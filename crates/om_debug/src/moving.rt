@@ -407,7 +407,8 @@ impl Debugger {
         }
     }
 
-    // The same, where what came last to the process came in this event or behind it: it goes no further back than to before that.
+    // Goes back as `part_back` does, where what came last to the process came in this event or behind it: it goes no further back than to
+    // before that.
     #[tactic(auto, using(crate::proofs::Backwards::stands_then, crate::proofs::Backwards::back_quiet, crate::proofs::Backwards::back_breaks, crate::proofs::Backwards::back_meets, crate::proofs::Backwards::back_paused, crate::proofs::Backwards::again_at))]
     fn part_behind<R: Wish>(
         &mut self,
@@ -487,7 +488,7 @@ impl Debugger {
         self.last()
     }
 
-    // The same, where that came in this event or behind it.
+    // Returns the position of `last_watched`, where that came in this event or behind it.
     #[tactic(auto, using(crate::proofs::Looking::last_quiet, crate::proofs::Looking::quiet_from))]
     fn last_from(&self, event: usize) -> Option<Position>
         ensures { MatchOption result (IsQuiet self.now.breaks self.now.watches self.now.timeline event 0 self.now.timeline.event self.now.timeline.turns)

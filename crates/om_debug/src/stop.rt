@@ -1,3 +1,5 @@
+//! Why a process stands, and what a debugger is told of it.
+
 ghost use Rattle.std.specs.Prelude.{◌≡◌, IfOk, string_bytes};
 ghost use Rattle.om_debug.specs.Stops.{stop_text, trap_text, watch_word};
 

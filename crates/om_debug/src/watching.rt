@@ -155,7 +155,7 @@ fn first_changed(watches: &[Watch], before: &Machine, after: &Machine) -> Option
     None
 }
 
-// The watchpoint that what comes next at a position meets.
+// Returns the watchpoint that is met by what comes next at a position.
 #[tactic(auto, using(crate::proofs::Quiet::none_met_of, crate::proofs::Quiet::watch_read, crate::proofs::Quiet::watch_past))]
 pub(crate) fn watch_met(
     watches: &[Watch],
