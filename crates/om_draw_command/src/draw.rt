@@ -110,7 +110,7 @@ fn count_within(lines: &[usize], last: usize) -> usize
     lines.iter().filter(|line| **line <= last).count()
 }
 
-// The picture of the first events of a script, so many, whose window begins at a line.
+// Makes the picture of the first events of a script, so many, whose window begins at a line.
 fn draw_script(
     alloc: Global,
     script: &SimScript,
@@ -131,7 +131,7 @@ fn draw_script(
     Ok(played_picture(alloc, script, lines, count, from, &mut world)?)
 }
 
-// The same, from this world on.
+// Makes the picture of the first events of a script, played from this world on.
 fn played_picture(
     alloc: Global,
     script: &SimScript,

@@ -153,7 +153,7 @@ fn step_of<S: Stable>(
     }
 }
 
-// The one answer.
+// Returns the one answer.
 fn only(answers: &[Answer]) -> Answer
     requires { length answers.now ≡ 1 }
     ensures { answers.now ≡ result ∷ [] }
