@@ -73,7 +73,7 @@ fn end_place(one: &[Status], other: &[Status], n: usize) -> Option<TextPosition>
     None
 }
 
-// The first place at which two runs of so many processes differ.
+// Returns the first place at which two runs of so many processes differ.
 pub(crate) fn first_difference(one: &Report, other: &Report, n: usize) -> Option<TextPosition>
     requires one { AreOf n one.now }
     requires other { AreOf n other.now }

@@ -352,8 +352,8 @@ fn places_of(
     Ok(places)
 }
 
-// The text of an exploration of these programs, of which it is said whether all runs were asked for: a line for each text that runs
-// came to; one for each that differs from the first, where that is first, with bytes in a form; and how many there are.
+// Makes the text of an exploration of these programs, of which it is said whether all runs were asked for: a line for each text
+// that runs came to; one for each that differs from the first, where that is first, with bytes in a form; and how many there are.
 pub(crate) fn exploration_text(
     alloc: Global,
     form: BytesForm,
