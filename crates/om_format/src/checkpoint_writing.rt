@@ -89,7 +89,7 @@ fn put_pages(out: &mut Vec<u8>, memory: &[u8], indices: &[u16]) -> Result<(), Al
     Ok(())
 }
 
-// The number of outputs, and the memory, of which the pages at these indices are kept.
+// Writes the number of outputs, and the memory, of which the pages at these indices are kept.
 pub(crate) fn put_memory(
     out: &mut Vec<u8>,
     made: u64,
@@ -148,8 +148,8 @@ pub(crate) fn put_outputs(out: &mut Vec<u8>, queue: &Queue) -> Result<(), AllocE
     Ok(())
 }
 
-// Room for all bytes of a checkpoint of which so many pages are kept, if that is no more than there are numbers: it is made
-// at once, and the memory need not be moved.
+// Returns the room, in bytes, for all of a checkpoint of which so many pages are kept, or the greatest number where that is
+// more: it is made at once, and the memory need not be moved.
 pub(crate) fn room_for(checkpoint: &Checkpoint, kept: usize) -> usize {
     let mut room = room_for_queue(&checkpoint.outputs);
     for queue in &checkpoint.kept {

@@ -90,8 +90,8 @@ fn receipt_at(alloc: Global, bytes: &[u8]) -> Result<Receipt, DecodeError>
     })
 }
 
-/// The receipt that the bytes spell, all of the bytes; else the first fault of the bytes from the left. `Memory` where
-/// there was none for the body, and every field is whole and allowed.
+/// Reads the receipt that the bytes spell, all of the bytes; else returns the first fault of the bytes from the left.
+/// `Memory` where there was none for the body, and every field is whole and allowed.
 pub fn decode_receipt(alloc: Global, bytes: &[u8]) -> Result<Receipt, DecodeError>
     ensures found { IfOk result (λ r. SpellsReceipt (receipt_record r) bytes.now) }
     ensures only { (r : ReceiptRecord) → SpellsReceipt r bytes.now → Gives receipt_record result (Ok r) }
@@ -137,9 +137,9 @@ fn rest_at(alloc: Global, front: &Front, bytes: &[u8]) -> Result<Rest, DecodeErr
     })
 }
 
-/// The checkpoint that the bytes spell in one of the versions, all of the bytes; else the first fault of the bytes from the
-/// left. `Memory` where there was none for the memory or a queue, and the fields before the bytes of the memory are whole and
-/// allowed.
+/// Reads the checkpoint that the bytes spell in one of the versions, all of the bytes; else returns the first fault of the
+/// bytes from the left. `Memory` where there was none for the memory or a queue, and the fields before the bytes of the
+/// memory are whole and allowed.
 pub fn decode_checkpoint(alloc: Global, bytes: &[u8]) -> Result<Checkpoint, DecodeError>
     ensures found { IfOk result (λ c. IsSpelled (checkpoint_record c) bytes.now) }
     ensures only { (version : Version) (r : CheckpointRecord) → SpellsCheckpoint version r bytes.now

@@ -106,7 +106,7 @@ fn counted_at<'a>(
     pages_at(alloc, size, count, offset + 2, rest)
 }
 
-// A memory of this size, in the form of this version.
+// Reads a memory of this size, in the form of this version.
 #[tactic(auto, unfolding(crate::specs::steps::CheckpointReading::memory_at, crate::specs::steps::CheckpointReading::before_memory_at))]
 pub(crate) fn memory_at<'a>(
     alloc: Global,

@@ -38,7 +38,7 @@ fn entry_at<'a>(
     })
 }
 
-// So many entries, as long as there are bytes.
+// Reads `count` entries, as long as there are bytes.
 fn entries_at<'a>(
     alloc: Global,
     newest: u32,
@@ -98,7 +98,7 @@ fn messages_at<'a>(
     })
 }
 
-// The kept outputs, up to the number `stop`.
+// Reads the kept outputs, up to the number `stop`.
 #[tactic(auto, unfolding(crate::specs::steps::CheckpointReading::queue_at))]
 pub(crate) fn outputs_at<'a>(
     alloc: Global,
@@ -126,7 +126,7 @@ pub(crate) fn outputs_at<'a>(
     })
 }
 
-// The kept messages to each process, up to the numbers `stops`.
+// Reads the kept messages to each process, up to the numbers `stops`.
 pub(crate) fn queues_at<'a>(
     alloc: Global,
     newest: u32,
