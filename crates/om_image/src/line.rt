@@ -12,7 +12,7 @@ use om_scripts::Programs;
 use om_text::{BuildError, LineError};
 use std::alloc::{AllocError, Global};
 
-// The line of the program whose memory begins with the bytes.
+// Makes the line of the program whose memory begins with the bytes.
 pub(crate) fn line_of(
     alloc: Global,
     ext: Ext,

@@ -10,7 +10,7 @@ use std::alloc::{AllocError, Global};
 // How many bytes a word has.
 const WORD_BYTES: usize = 4;
 
-// The words of the bytes, the lowest byte of each first; the last is padded with zeros.
+// Returns the words of the bytes, the lowest byte of each first; the last is padded with zeros.
 #[tactic(auto, using(crate::proofs::Whole::words_of_padded))]
 pub(crate) fn words_of(alloc: Global, bytes: &[u8]) -> Result<Vec<u32>, AllocError>
     ensures words { IfOk result (λ words. AreWordsOf bytes.now words.items) }
@@ -53,7 +53,7 @@ fn word_at(bytes: &[u8], at: usize) -> u32
     u32::from_le_bytes([bytes[at], bytes[at + 1], bytes[at + 2], bytes[at + 3]])
 }
 
-// The words as text.
+// Returns the words as text.
 pub(crate) fn texts_of(alloc: Global, words: &[u32]) -> Result<Vec<String>, AllocError>
     ensures { IfOk result (λ texts. map string_bytes texts.items ≡ map word_text words.now) }
 {
