@@ -108,7 +108,7 @@ impl Inferiors {
         all_to_event(&mut self.members, event)
     }
 
-    // Where time and the processes stand, as it is told.
+    // Returns where time and the processes stand, as it is told.
     fn said_where(&self, alloc: Global) -> Result<Told, PlayFault>
         ensures said { IfOk result (λ told. IsSaid (group_where_text self.now.members.items) told) }
         ensures last { IfOk result (λ told. is_last told ≡ false) }
