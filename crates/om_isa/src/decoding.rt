@@ -80,7 +80,8 @@ macro_rules! extension_rows {
     };
 }
 
-/// The instruction that a word stands for in a program of this extension, or `None` where it fits no row of it.
+/// Returns the instruction that a word stands for in a program of this extension, or `None` where it fits no
+/// row of it.
 #[inline(always)]
 pub fn decode(w: u32, ext: Ext) -> Option<Inst>
     // The result equals at most one instruction, so no word fits two rows.

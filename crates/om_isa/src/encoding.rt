@@ -147,7 +147,7 @@ macro_rules! encode_rows {
     };
 }
 
-/// The one word that decodes to the instruction, in a program that may use all instructions.
+/// Returns the one word that decodes to the instruction, in a program that may use all instructions.
 pub fn encode(i: &Inst) -> u32
     ensures decodes { Decodes Ext.Im result i.now }
     ensures only { (w : ℕ) → Decodes Ext.Im w i.now → w ≡ result }

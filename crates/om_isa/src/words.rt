@@ -5,7 +5,7 @@ ghost use Rattle.om_isa.specs.Words.{bits_of, sign_of, immediate_i, immediate_s,
 
 use crate::fields::{FenceBits, Imm12, Off13, Off21, Reg, Shamt, Upper};
 
-// Bits hi to lo, both included.
+// Returns bits `hi` to `lo` of a word, both included.
 #[tactic(auto, using(crate::proofs::Bits::and_ones))]
 pub fn bits(w: u32, hi: u32, lo: u32) -> u32
     requires ordered { lo ≤ hi }
