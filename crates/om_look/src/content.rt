@@ -16,8 +16,8 @@ use crate::spans::{push_spans, spans_of};
 use om_stable::Stable;
 use std::alloc::{AllocError, Global};
 
-/// The text of what a store holds: a line for each checkpoint, for each receipt, and for each range of intervals to which the
-/// process can be replayed. A record that does not decode has a line too, which says why. The store keeps its content.
+/// Makes the text of what a store holds: a line for each checkpoint, for each receipt, and for each range of intervals to which
+/// the process can be replayed. A record that does not decode has a line too, which says why. The store keeps its content.
 ///
 /// From each checkpoint the process is replayed once, or twice where a receipt is missing behind it: the work is linear in what
 /// is stored.

@@ -72,7 +72,7 @@ pub fn trace(
     })
 }
 
-// One turn with its lines, if there is one.
+// Takes one turn and writes its lines, if there is one.
 fn turn(alloc: Global, core: &mut ProcCore, text: &mut Vec<u8>) -> Result<bool, AllocError>
     ensures turn { IfOk result (λ went. went ≡ true → (lines : List ℕ)
         × IsTrace core.old.own (cluster_size core.old.now) 1 core.old.now core.new.now lines
