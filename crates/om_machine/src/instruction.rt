@@ -113,7 +113,7 @@ impl Machine {
         }
     }
 
-    // A jump.
+    // Returns the effect of a jump: the trap where the target is misaligned.
     #[tactic(auto, unfolding(crate::specs::Effects::jump_effect))]
     fn jump(&self, rd: Reg, target: u32) -> EffectNow
         ensures effect { told self.now result ≡ jump_effect rd target }
@@ -255,7 +255,7 @@ impl Machine {
         }
     }
 
-    // The environment call that x17 numbers, or the trap where there is none.
+    // Returns the environment call that x17 numbers, or the trap where there is none.
     #[tactic(auto, unfolding(crate::specs::Effects::call_effect))]
     pub(crate) fn call(&self) -> Event
         ensures event { result ≡ event_of (call_effect self.now) }
