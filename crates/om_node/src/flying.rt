@@ -22,7 +22,7 @@ use std::sync::Wait;
 pub struct WriteRequest<J: Series, S: Stable> {
     pub store: Box<S>,
     pub transaction: Transaction,
-    /// Of this store and this transaction.
+    /// The ticket of this store and this transaction.
     pub ticket: Ticket<J, SentStore<S>>,
 }
 
@@ -42,7 +42,7 @@ pub struct Landing<J: Series, S: Stable> {
     pub store: Box<S>,
     pub transaction: Transaction,
     pub told: Result<(), StoreError>,
-    /// Of the store as it went.
+    /// The ticket of the store as it went.
     pub ticket: Ticket<J, SentStore<S>>,
 }
 

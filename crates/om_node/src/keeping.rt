@@ -183,7 +183,7 @@ fn released_rows(alloc: Global, outputs: &[Made], released: u64) -> Result<NewRo
     NewRows::of(first, recs)
 }
 
-// Their records.
+// Returns the records of those of the outputs that are released.
 fn released_records(
     alloc: Global,
     outputs: &[Made],
