@@ -179,7 +179,8 @@ impl Page {
 }
 
 impl Picture {
-    /// The whole picture, where the processes stand so in the end, and their names have so many characters.
+    /// Returns the whole picture, where the processes stand so in the end, and their names have so many
+    /// characters.
     pub fn end(
         self,
         alloc: Global,

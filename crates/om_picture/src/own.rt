@@ -55,7 +55,7 @@ impl Page {
         Ok(())
     }
 
-    // A gathering is open from the left of this failure on, if none was; 0 is before the window.
+    // Opens a gathering from the left of this failure on, if none was open; 0 is before the window.
     pub(crate) fn open(&mut self, declared: bool, x: u32) {
         if declared && self.opened.is_none() {
             self.opened = Some(if x == 0 {
@@ -174,7 +174,7 @@ impl Picture {
         self.shape(Glyph::Refused, step, at)
     }
 
-    // So many receipts of a process are stored, or all; that is drawn, if some were in memory only.
+    // Stores so many receipts of a process, or all, and draws that, if some were in memory only.
     fn log(
         &mut self,
         p: usize,

@@ -21,7 +21,7 @@ const REFUSED: u32 = 8;
 
 pub(crate) const FAILURE: u32 = 11;
 
-// Half the width of the column of what an event shows.
+// Returns half the width of the column of what an event shows.
 fn half_of(shown: Shown) -> u32
     ensures some { 0 < result }
     ensures narrow { result ≤ MOST_HALF }
@@ -100,7 +100,7 @@ fn words_of(step: &PlayedEvent, shown: Shown) -> Wanted {
     }
 }
 
-/// The number of a lane.
+/// Returns the number of a lane.
 pub(crate) fn lane_number(p: usize) -> u32
     ensures { result ≡ lane_number p }
 {
@@ -177,7 +177,7 @@ impl Picture {
         Ok(Spot { x, lane })
     }
 
-    // The same, by what it shows.
+    // Returns the place of an event of a process, by what it shows.
     fn next_place(&mut self, p: usize, step: &PlayedEvent, shown: Shown) -> Result<u32, AllocError>
         ensures { IfOk result (λ x. Places (is_shown shown) x (sketch_of self.old) (sketch_of self.new)) }
     {

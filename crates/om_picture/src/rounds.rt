@@ -102,7 +102,7 @@ impl Page {
 }
 
 impl Picture {
-    // All is cut to the recovery state.
+    // Cuts all to the recovery state, as a round is finished.
     pub(crate) fn finish(
         &mut self,
         alloc: Global,

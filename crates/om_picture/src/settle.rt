@@ -214,7 +214,7 @@ impl Picture {
         Ok(())
     }
 
-    // The same for a lane: the place of the first output that was held and is released.
+    // Settles a lane as `keep` does, and returns the place of the first output that was held and is released.
     fn keep_lane(
         &mut self,
         p: usize,
@@ -283,7 +283,7 @@ impl Picture {
     }
 }
 
-// The place of a process in a recovery state.
+// Returns the place of a process in a recovery state.
 pub(crate) fn place_of(recovery: DepVec, p: usize) -> u32
     ensures { result ≡ slice_index recovery p }
 {
