@@ -23,7 +23,7 @@ pub struct Down {
 }
 
 impl ProcCore {
-    /// The process fails: all that is volatile is lost.
+    /// Fails the process: all that is volatile is lost.
     pub fn fail(self) -> Down
         ensures pid { result.pid ≡ self.own }
         ensures n { result.n ≡ cluster_size self.now }

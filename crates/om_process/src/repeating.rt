@@ -116,7 +116,7 @@ impl ProcCore {
     }
 }
 
-// The least interval above `after` and at or below `x` that none of these rows is of, where they ascend between the two. A
+// Returns the least interval above `after` and at or below `x` that none of these rows is of, where they ascend between the two. A
 // store of which nothing is known may find rows of any intervals.
 pub(crate) fn missing(after: u32, x: u32, found: &Vec<(u32, Vec<u8>)>) -> Option<u32>
     ensures gapless { IfNone result (AreGapless after (rows_of found.now.items)) }

@@ -14,7 +14,7 @@ use om_machine::Machine;
 use std::alloc::{AllocError, Global};
 
 impl ProcCore {
-    // The process of a checkpoint, which knows of no failure.
+    // Makes the process of a checkpoint, which knows of no failure.
     pub(crate) fn restored(alloc: Global, checkpoint: Checkpoint) -> Result<ProcCore, AllocError>
         ensures own { IfOk result (λ core. core.own ≡ checkpoint.head.pid) }
         ensures now { IfOk result (λ core. core.now ≡ process_of (checkpoint_record checkpoint)) }

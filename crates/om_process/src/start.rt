@@ -170,7 +170,7 @@ impl ProcCore {
     }
 }
 
-// So many queues of no messages.
+// Makes `n` queues of no messages.
 fn empty_outbox(alloc: Global, n: usize) -> Result<Vec<Messages>, AllocError>
     ensures { IfOk result (λ outbox. outbox.items ≡ replicate n empty_queue) }
 {

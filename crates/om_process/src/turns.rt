@@ -136,7 +136,7 @@ impl ProcCore {
         }
     }
 
-    // One turn at this event of the machine, or what it is about to do where there is none.
+    // Takes one turn at this event of the machine, or returns what it is about to do where there is none.
     fn turn(&mut self, alloc: Global, event: Event) -> Result<Option<Status>, AllocError>
         requires at { (next_of self.old.now.machine).0 ≡ event }
         requires stands { event ≢ Event.Went }
