@@ -71,7 +71,7 @@ pub(crate) fn debug_file<R: Threads + Wait + Copy + Send + 'static, W: Write>(
     outcome
 }
 
-// The same of the bytes that the file and its log hold.
+// Answers packets about the process whose store is in the bytes that the file and its log hold.
 fn debug_bytes<R: Threads + Wait + Copy + Send + 'static, W: Write>(
     rt: &HostRuntime,
     threads: &R,
