@@ -1,3 +1,5 @@
+//! How a row is added.
+
 ghost use Rattle.std.specs.Prelude.{◌≡◌, ℕ, ◌<◌, ◌≤◌, ◌+◌, ◌^◌, OnOk, OnErr, Some, IsTrue, ◌↔◌, IsSome, MatchOption};
 ghost use Rattle.std.specs.FinSet as set;
 ghost use Rattle.om_recover.specs.Rows.{Has, IsLawful};

@@ -1,3 +1,5 @@
+//! The answer to a row that is offered.
+
 ghost use Rattle.std.specs.Prelude.{◌≡◌, ℕ, ◌<◌, ◌≤◌, ◌↔◌, ◌⊎◌, length, false, slice_index, IsTrue, IfSome, MatchOption};
 ghost use Rattle.om_recover.specs.Rows.{HasRow, IsFair, IsAtMost, HaveSameVectors, IsLawful};
 ghost use Rattle.om_recover.specs.Offered.{IsNew, IsOffer, IsInOrderBelow, IsInOrderAbove, Agrees};
@@ -13,7 +15,7 @@ use crate::rows::logs::{log_at, log_from};
 use crate::rows::lookup::{record_from, record_to, vectors_of};
 use crate::rows::trees::Trees;
 
-// The answer to a row that is not added, or `None` where the row is new.
+// Returns the answer to a row that is not added, or `None` where the row is new.
 pub fn answer_without_change(trees: &Trees, n: usize, row: &Row) -> Option<Result<Note, NoteError>>
     requires in_order { AreTrees trees.now }
     requires lawful { IsLawful n (held trees.now) }
@@ -198,7 +200,7 @@ fn is_last(trees: &Trees, row: &Row) -> bool
     }
 }
 
-// Of the process's rows below the row's interval, the nearest.
+// Returns the nearest of the process's rows below the row's interval.
 fn nearest_below(trees: &Trees, row: &Row) -> Option<Row>
     requires { AreTrees trees.now }
     ensures { MatchOption result (HasNoRowBelow (held trees.now) row.now) (IsNearestBelow (held trees.now) row.now) }
@@ -217,7 +219,7 @@ fn nearest_below(trees: &Trees, row: &Row) -> Option<Row>
     }
 }
 
-// Of the process's rows above the row's interval, the nearest.
+// Returns the nearest of the process's rows above the row's interval.
 fn nearest_above(trees: &Trees, row: &Row) -> Option<Row>
     requires in_order { AreTrees trees.now }
     requires lawful { (n : ℕ) × IsLawful n (held trees.now) }

@@ -1,3 +1,5 @@
+//! How entries of a tree are dropped.
+
 ghost use Rattle.std.specs.Prelude.{◌<◌, MatchOption};
 ghost use Rattle.om_recover.specs.steps.Nearest.{at, AreSorted, AreFrom, ArePruned, IsBelowBound, HasNoneBelow};
 
