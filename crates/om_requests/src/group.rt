@@ -131,7 +131,7 @@ fn point_in(word: &[u8]) -> Option<usize>
     word.iter().position(|byte| *byte == b'.')
 }
 
-// PROCESS or PROCESS.THREAD.
+// Reads PROCESS or PROCESS.THREAD.
 fn process_whom(word: &[u8]) -> Option<Whom>
     ensures { result ≡ process_whom word.now }
 {
@@ -154,7 +154,7 @@ fn thread_of_group(process: &[u8], word: &[u8]) -> Option<Whom>
     thread_in(word, hex_number(process))
 }
 
-// All threads of a process.
+// Names all threads of a process.
 fn whole(number: Option<u32>) -> Option<Whom>
     ensures { result ≡ any_or number whole }
 {

@@ -28,7 +28,7 @@ pub(crate) fn request_by(alloc: Global, words: &[&[u8]]) -> Result<Request, Allo
     }
 }
 
-// By the whole first word, where that is no command of the user.
+// Reads a request by the whole first word, where that is no command of the user.
 fn by_word(first: &[u8], rest: &[&[u8]]) -> Request
     ensures { result ≡ by_word first.now (map (λ word. word.now) rest.now) }
 {
@@ -71,7 +71,7 @@ fn by_word(first: &[u8], rest: &[&[u8]]) -> Request
     by_letter(first, rest)
 }
 
-// By the letter that begins the first word.
+// Reads a request by the letter that begins the first word.
 fn by_letter(first: &[u8], rest: &[&[u8]]) -> Request
     ensures { result ≡ by_letter first.now (map (λ word. word.now) rest.now) }
 {
@@ -185,7 +185,7 @@ fn watch_at(sets: bool, watch: Watch) -> Request
     }
 }
 
-// Some bytes of memory.
+// Reads a request for some bytes of memory.
 fn memory_request(address: &[u8], rest: &[&[u8]]) -> Request
     ensures { result ≡ memory_request address.now (map (λ word. word.now) rest.now) }
 {
