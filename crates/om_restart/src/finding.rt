@@ -238,7 +238,7 @@ fn senders_of(alloc: Global, rows: &[(u64, Vec<u8>)]) -> Result<Vec<u8>, FindFau
     Ok(senders)
 }
 
-// All that was found. What holds something says what it is of.
+// Returns all that was found. What holds something says what it is of.
 fn found_of(
     alloc: Global,
     tables: Tables,

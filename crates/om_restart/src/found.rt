@@ -1,3 +1,5 @@
+//! What was found in a store that a run may take up.
+
 ghost use Rattle.std.specs.Prelude.{◌<◌, ◌↔◌, IsTrue, length};
 ghost use Rattle.om_restart.specs.Beyond.{IsBeyondStart};
 

@@ -45,7 +45,7 @@ fn sender_of(before: &PendingRow, row: &PendingRow) -> Option<u8>
     }
 }
 
-// The interval and the sender of each receipt that gave a row, ascending.
+// Returns the interval and the sender of each receipt that gave a row, ascending.
 pub(crate) fn received_in(alloc: Global, rows: &[PendingRow]) -> Result<Vec<(u32, u8)>, AllocError>
     ensures told { IfOk result (λ received. AreReceivedBy (length rows.now) rows.now received.items) }
     ensures ascending { IfOk result (λ received. IsNonDecreasingBy (λ e. e.0) received.items) }
@@ -55,7 +55,7 @@ pub(crate) fn received_in(alloc: Global, rows: &[PendingRow]) -> Result<Vec<(u32
     Ok(received)
 }
 
-// The same, in the order of the rows.
+// Returns the interval and the sender of each receipt that gave a row, in the order of the rows.
 fn in_order_of(alloc: Global, rows: &[PendingRow]) -> Result<Vec<(u32, u8)>, AllocError>
     ensures { IfOk result (λ received. AreReceivedBy (length rows.now) rows.now received.items) }
 {
