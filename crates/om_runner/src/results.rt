@@ -86,7 +86,7 @@ fn all_of<K: Naming, S: Stable>(
     Ok(all)
 }
 
-// Each kind of what was brought back, by process.
+// Parts what was brought back into each kind, by process.
 fn parted<K: Naming, S: Stable>(
     alloc: Global,
     all: Vec<Finished<K, S>>,
