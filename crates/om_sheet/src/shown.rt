@@ -126,7 +126,7 @@ fn flush_shown(answer: Answer) -> Shown
     }
 }
 
-// Of a flush of so many receipts.
+// Returns what is shown of a flush of so many receipts.
 fn first_shown(answer: Answer, many: usize) -> Shown
     ensures { result ≡ first_shown many answer }
 {
