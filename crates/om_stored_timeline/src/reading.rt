@@ -56,7 +56,7 @@ fn checkpoint_at(alloc: Global, c: u32, bytes: &[u8]) -> Result<Checkpoint, Repl
     }
 }
 
-// The checkpoint with which a replay to `x` begins.
+// Reads the checkpoint with which a replay to `x` begins.
 pub(crate) fn beginning<S: Stable>(
     alloc: Global,
     store: &mut S,
@@ -76,7 +76,7 @@ pub(crate) fn beginning<S: Stable>(
     }
 }
 
-// All receipts behind interval `c`.
+// Reads all receipts behind interval `c`.
 pub(crate) fn receipts_behind<S: Stable>(
     alloc: Global,
     store: &mut S,

@@ -71,7 +71,7 @@ fn last_of<S: Stable>(alloc: Global, store: &mut S) -> Result<u32, ReplayFault>
     Ok(last_along(alloc, &checkpoint, &rows)?)
 }
 
-// The same along these rows.
+// Returns the last interval to which these rows lead behind a checkpoint.
 fn last_along(
     alloc: Global,
     checkpoint: &Checkpoint,
