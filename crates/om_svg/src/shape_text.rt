@@ -15,7 +15,7 @@ use om_sheet::{
 use std::alloc::AllocError;
 use std::fmt::Write;
 
-/// The height of a lane.
+/// Returns the height of a lane.
 pub fn height(lane: u32) -> u64
     ensures { result ≡ height lane }
 {
