@@ -99,7 +99,7 @@ impl Cache {
     }
 }
 
-// Those of some receipts that are at or below `to`.
+// Returns those of some receipts that are at or below `to`.
 fn up_to(mut rows: Vec<(u32, Vec<u8>)>, to: u32) -> Vec<(u32, Vec<u8>)>
     ensures { rows_of result.items ≡ filter (λ e. nat_le e.0 to) (rows_of rows.items) }
 {

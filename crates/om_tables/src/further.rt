@@ -82,7 +82,7 @@ fn insert_rows<S: Alter>(
     Ok(())
 }
 
-// All or none.
+// Puts rows into a table from number `first` on, all or none.
 pub(crate) fn put_rows<S: Alter>(
     conn: &mut Connection<S>,
     table: LedgerTable,

@@ -123,7 +123,7 @@ fn receipt_rows<S: Alter>(
     )
 }
 
-// The receipts above `after` and at or below `to`.
+// Returns the receipts above `after` and at or below `to`.
 pub(crate) fn receipts<S: Alter>(
     conn: &mut Connection<S>,
     alloc: Global,
@@ -169,7 +169,7 @@ fn first_in(rows: &[Row]) -> Result<Option<(u32, Vec<u8>)>, Refusal>
     }
 }
 
-// The greatest checkpoint at or below `x`.
+// Returns the greatest checkpoint at or below `x`.
 pub(crate) fn effective<S: Alter>(
     conn: &mut Connection<S>,
     x: u32,
