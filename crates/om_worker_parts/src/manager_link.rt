@@ -78,7 +78,7 @@ fn have_receipt(rows: &[PendingRow]) -> bool {
 }
 
 impl<'a, K: Naming> ManagerLink<'a, K> {
-    /// Makes that of a process at its start.
+    /// Makes the link of a process at its start.
     pub fn new(pid: Pid, shared: &'a Shared<K>) -> ManagerLink<'a, K>
         requires { pid < K.cell.n }
         ensures { result.pid ≡ pid }
