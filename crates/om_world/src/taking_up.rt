@@ -149,7 +149,7 @@ impl<S: Stable> Stopped<S> {
     }
 }
 
-// What was received, or what had been before the last finished round.
+// Returns what was received, or what had been before the last finished round.
 fn run_of(live: Remembered, since: Since, current: bool) -> Remembered
     ensures { result.entries ≡ cond current live.entries since.before }
 {
