@@ -155,7 +155,7 @@ fn no_subcommand(command: &mut Command<'_>) -> Error {
     }
 }
 
-// The error of a mistake in the arguments of a subcommand, or of memory that ran out for it.
+// Makes the error of a mistake in the arguments of a subcommand, or of memory that ran out for it.
 fn refusal_of(alloc: Global, subcommand: Subcommand, mistake: Mistake<'_>) -> Error {
     match told(alloc, subcommand, mistake) {
         Ok(error) => error,
@@ -163,7 +163,7 @@ fn refusal_of(alloc: Global, subcommand: Subcommand, mistake: Mistake<'_>) -> Er
     }
 }
 
-// The text of a mistake, with the usage of its subcommand.
+// Makes the text of a mistake, with the usage of its subcommand.
 fn told(alloc: Global, subcommand: Subcommand, mistake: Mistake<'_>) -> Result<Error, AllocError> {
     let name = name_of(subcommand);
     let bin_name = format!(in alloc; "omlog {name}")?;
@@ -172,7 +172,7 @@ fn told(alloc: Global, subcommand: Subcommand, mistake: Mistake<'_>) -> Result<E
     command.error(ErrorKind::ValueValidation, what.as_str())
 }
 
-// The request of a subcommand, where what it is given for a number is one.
+// Makes the request of a subcommand, where what it is given for a number is one.
 fn request_of<'a>(
     subcommand: Subcommand,
     found: &ArgMatches<'a>,
@@ -193,7 +193,7 @@ fn request_of<'a>(
     }
 }
 
-// The subcommand of a name.
+// Returns the subcommand of a name.
 fn subcommand_of(name: &str) -> Option<Subcommand>
     ensures { result ≡ subcommand_named name.now }
 {
@@ -212,7 +212,7 @@ fn subcommand_of(name: &str) -> Option<Subcommand>
     }
 }
 
-// The name of a subcommand.
+// Returns the name of a subcommand.
 fn name_of(subcommand: Subcommand) -> &'static str
     ensures { subcommand_named result.now ≡ Some subcommand }
 {
@@ -230,7 +230,7 @@ fn name_of(subcommand: Subcommand) -> &'static str
     }
 }
 
-// The request for the line of an image.
+// Makes the request for the line of an image.
 fn image_request<'a>(found: &ArgMatches<'a>) -> Result<Request<'a>, Mistake<'a>>
     ensures { IfOk result (λ request. asked_by request ≡ Subcommand.Image) }
 {
@@ -241,7 +241,7 @@ fn image_request<'a>(found: &ArgMatches<'a>) -> Result<Request<'a>, Mistake<'a>>
     })
 }
 
-// The instructions that a program may use, by the flag `--m`.
+// Returns the instructions that a program may use, by the flag `--m`.
 fn ext_of(with_m: bool) -> Ext
     ensures { result ≡ ext_of with_m }
 {
@@ -276,7 +276,7 @@ fn checking_of<'a>(found: &ArgMatches<'a>) -> Result<Checking<'a>, Mistake<'a>> 
     }
 }
 
-// The name of a file that is to be written beside the text, which standard output cannot take too.
+// Returns the name of a file that is to be written beside the text, which standard output cannot take too.
 fn file_for<'a>(argument: &'a str, path: &'a str) -> Result<&'a str, Mistake<'a>>
     ensures file { IfOk result (λ file. file ≡ path.entry) }
     ensures refused { IsErr result ↔ (path.now ≡ codes "-") }
@@ -296,7 +296,7 @@ fn raw_of<'a>(name: &'a str, follows: bool) -> Checking<'a> {
     }
 }
 
-// The kills that are to be drawn, if any are, where their numbers are numbers.
+// Reads the kills that are to be drawn, if any are, where their numbers are numbers.
 fn kills_of<'a>(found: &ArgMatches<'a>) -> Result<Option<Kills>, Mistake<'a>> {
     let Some(count) = found.get_str(KILLS) else {
         return Ok(None);
@@ -309,7 +309,7 @@ fn kills_of<'a>(found: &ArgMatches<'a>) -> Result<Option<Kills>, Mistake<'a>> {
     Ok(Some(Kills { count, seed }))
 }
 
-// The request to run a cluster, where its turns and what else is a number are numbers.
+// Makes the request to run a cluster, where its turns and what else is a number are numbers.
 fn run_request<'a>(found: &ArgMatches<'a>) -> Result<Request<'a>, Mistake<'a>>
     ensures { IfOk result (λ request. asked_by request ≡ Subcommand.Run) }
 {

@@ -104,7 +104,7 @@ pub(crate) fn exploring_of<'a>(found: &ArgMatches<'a>) -> Result<Exploring<'a>, 
     })
 }
 
-// The number of an argument, and what stands for it where it is not given.
+// Returns the number of an argument, or what stands for it where it is not given.
 fn number_or<'a>(
     argument: &'a str,
     word: Option<&'a str>,
