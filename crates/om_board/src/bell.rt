@@ -43,7 +43,7 @@ pub struct Bell {
     senders: CachePadded<AtomicU64>,
 }
 
-// The bit of a process. There are fewer processes than bits.
+// Returns the bit of a process. There are fewer processes than bits.
 fn bit_of(place: usize) -> u64 {
     1 << (place % 64)
 }
