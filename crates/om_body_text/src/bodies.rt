@@ -85,7 +85,7 @@ fn push_line(
     }
 }
 
-// Bytes that are no receipt are passed over, and only want of memory is refused.
+// Passes over bytes that are no receipt: only memory that ran out is refused.
 fn refuse_memory(error: DecodeError) -> Result<(), AllocError>
     ensures { OnOk result (error ≢ DecodeError.Memory) }
 {
