@@ -67,7 +67,7 @@ pub(crate) fn is_done(world: &World<MemStable>, pid: Pid) -> bool
     }
 }
 
-// Refused where one of so many processes has not ended.
+// Refuses where one of so many processes has not ended.
 fn all_done(world: &World<MemStable>, n: usize) -> Result<(), PlayFault>
     requires few { n ≤ MAX_PROCESSES }
     requires managed { n ≤ process_count world.now.manager }

@@ -131,7 +131,7 @@ pub(crate) fn end_of(world: &World<MemStable>, n: usize) -> Result<Option<End>, 
     Ok(Some(end))
 }
 
-// The end with one process more: none where that can receive something.
+// Returns the end with one process more: none where that can receive something.
 fn end_with(end: End, rest: Rest) -> Option<End>
     ensures some { IfSome result (λ next. (w : WorldState) (p n : ℕ) → StandsIn w end p → StandsAs w p n rest → StandsIn w next (p + 1)) }
     ensures none { result ≡ None → rest ≡ Rest.GoesOn }
