@@ -144,7 +144,7 @@ fn read_numbers(words: &[&[u8]], numbers: &mut Vec<u32>) -> Result<(), BuildErro
     Ok(())
 }
 
-// The note of a process, an interval and a vector.
+// Makes the note of a process, an interval and a vector.
 fn note_of(kind: RowKind, numbers: &[u32]) -> NoteLine
     requires least { 3 ≤ length numbers.now }
     requires most { length numbers.now ≤ MAX_PROCESSES + 2 }

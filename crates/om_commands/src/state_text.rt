@@ -58,7 +58,7 @@ fn push_registers(alloc: Global, text: &mut String, regs: &[u32]) -> Result<(), 
     Ok(())
 }
 
-// The numbers of x0 to x31.
+// Returns the numbers of x0 to x31.
 fn registers_of(machine: &Machine) -> [u32; REGISTERS]
     ensures { result ≡ machine.now.regs }
 {

@@ -45,7 +45,7 @@ pub fn replay_steps<S: Stable, W: Write>(
     write_answer(writer, &text)
 }
 
-// The text of the process that is replayed and goes on.
+// Returns the text of the process that is replayed and goes on.
 fn stepped<S: Stable>(
     alloc: Global,
     store: &mut S,
@@ -67,7 +67,7 @@ fn stepped<S: Stable>(
     Ok(text_behind(alloc, core, steps, traced)?)
 }
 
-// The text of a process that goes on from here.
+// Returns the text of a process that goes on from here.
 fn text_behind(
     alloc: Global,
     core: ProcCore,
