@@ -184,7 +184,7 @@ impl Debugger {
         Ok(self.said(&text)?)
     }
 
-    // A text for the user, whose bytes are told in hexadecimal.
+    // Makes a text for the user, whose bytes are told in hexadecimal.
     fn said(&self, text: &str) -> Result<Reply, AllocError>
         ensures said { IfOk result (λ told. IsSaid text.now told) }
         ensures last { IfOk result (λ told. is_last told ≡ false) }
@@ -214,7 +214,7 @@ impl Debugger {
         Ok(Reply::Text(stop_text(self.alloc, stop)?.into_bytes()))
     }
 
-    // The answer to what is only asked: for what moves, nothing.
+    // Returns the answer to what is only asked: for what moves, nothing.
     fn asked(&self, request: Request) -> Result<Vec<u8>, AllocError>
         ensures { IfOk result (λ text. text.items ≡ asked self.now request) }
     {

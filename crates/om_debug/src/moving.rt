@@ -93,7 +93,7 @@ impl Debugger {
         Ok(Stop::Paused)
     }
 
-    // A piece of the way, and what stops it.
+    // Makes a piece of the way, and returns what stops it.
     #[tactic(auto, using(crate::proofs::Moved::moved_then, crate::proofs::Moved::same_then, crate::proofs::Quiet::passed_then, crate::proofs::Quiet::within_of))]
     fn advance(&mut self, how: Resume) -> Result<Option<Stop>, PlayFault>
         ensures within { IsWithin self.old.timeline }
@@ -185,7 +185,7 @@ impl Debugger {
         is_at_instruction(self.next()) && self.breaks.contains(&self.timeline.machine().pc())
     }
 
-    // The watchpoint that what comes next meets.
+    // Returns the watchpoint that what comes next meets.
     fn watch_here(&self) -> Option<Watch>
         ensures { result ≡ watch_here self.now }
     {
@@ -476,7 +476,7 @@ impl Debugger {
         self.breaks.len() > 0 || self.watches.len() > 0
     }
 
-    // The position before what came last to the process, where anything may have stopped it before here.
+    // Returns the position before what came last to the process, where anything may have stopped it before here.
     #[tactic(auto, using(crate::proofs::Backwards::still_quiet, crate::proofs::Looking::none_quiet))]
     fn last_watched(&self) -> Option<Position>
         ensures { MatchOption result (IsQuiet self.now.breaks self.now.watches self.now.timeline 0 0 self.now.timeline.event self.now.timeline.turns)
@@ -595,7 +595,7 @@ impl Debugger {
         Ok(self.timeline.look(self.alloc)? == Peek::End)
     }
 
-    // The position before what came last to the process.
+    // Returns the position before what came last to the process.
     fn last(&self) -> Option<Position>
         ensures { MatchOption result (IsStillBefore self.now.timeline.deeds self.now.timeline.event self.now.timeline.turns)
             (λ at. IsLast self.now.timeline.deeds at.event at.turns self.now.timeline.event self.now.timeline.turns) }
@@ -617,7 +617,7 @@ enum Part {
     Paused,
 }
 
-// The position before what came last to the process before another position.
+// Returns the position before what came last to the process before another position.
 #[tactic(auto, using(crate::proofs::Stepping::last_turn, crate::proofs::Stepping::last_back, crate::proofs::Stepping::still_none, crate::proofs::Stepping::still_back, crate::proofs::Stepping::still_all))]
 fn last_before(deeds: &[Deed], at: Position) -> Option<Position>
     requires { at.turns ≤ turns_at deeds.now at.event }

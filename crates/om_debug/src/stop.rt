@@ -30,8 +30,8 @@ pub enum Stop {
     End,
 }
 
-// The answer for a process that cannot go on: SIGSEGV for an address outside memory, SIGBUS for one that is not aligned, SIGTRAP for
-// EBREAK, and SIGILL for the rest.
+// Returns the answer for a process that cannot go on: SIGSEGV for an address outside memory, SIGBUS for one that is not aligned,
+// SIGTRAP for EBREAK, and SIGILL for the rest.
 fn trap_text(cause: Cause) -> &'static str
     ensures { result.now ≡ trap_text cause }
 {
