@@ -132,7 +132,7 @@ fn fault_of_file(rt: &HostRuntime, file: &str) -> FileFault {
     }
 }
 
-// The first byte of a file, if it has one.
+// Reads the first byte of a file, if it has one.
 fn start_of(rt: &HostRuntime, file: &str) -> io::Result<Option<u8>> {
     let mut first = [0];
     match fs::open(rt, file)?.read(&mut first)? {

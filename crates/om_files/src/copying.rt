@@ -48,7 +48,7 @@ pub fn bytes_of(rt: &HostRuntime, file: &str) -> Result<DatabaseBytes, CommandEr
     Ok(DatabaseBytes { file, log })
 }
 
-// The path of a file, with no link in it.
+// Returns the path of a file, with no link in it.
 fn place_of(rt: &HostRuntime, file: &str) -> Result<PathBuf, CommandError>
     ensures { IfErr result IsQuiet }
 {
