@@ -33,7 +33,7 @@ fn all_to_event(all: &mut [Inferior], event: usize) -> Result<(), PlayFault>
     Ok(())
 }
 
-// A text for the user, whose bytes are told in hexadecimal.
+// Makes a text for the user, whose bytes are told in hexadecimal.
 fn said(alloc: Global, text: &str) -> Result<Told, AllocError>
     ensures said { IfOk result (λ told. IsSaid text.now told) }
     ensures last { IfOk result (λ told. is_last told ≡ false) }
