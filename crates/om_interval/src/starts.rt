@@ -108,7 +108,7 @@ impl Starts {
     }
 }
 
-// The starts once each named process has one more, right above its place of the state.
+// Returns the starts once each named process has one more, right above its place of the state.
 fn begun(
     alloc: Global,
     by_process: &Vec<SharedBlocks>,
