@@ -32,7 +32,7 @@ pub fn content_text<S: Stable>(alloc: Global, store: &mut S) -> Result<String, L
     text_of(alloc, &found, &receipts)
 }
 
-// The text of these records.
+// Returns the text of these records.
 fn text_of(alloc: Global, found: &[Found], receipts: &[(u32, Vec<u8>)]) -> Result<String, LookFault>
     ensures text { IfOk result (λ text. IsTextOf found.now (rows_of receipts.now) (string_bytes text)) }
     ensures refused { IsErrOf result LookFault.Fault → ⊥ }

@@ -73,7 +73,7 @@ pub(crate) fn below(x: u32, to: u32) -> Option<u32>
     }
 }
 
-// The checkpoint of `x`, which is effective for `to`.
+// Returns the checkpoint of `x`, which is effective for `to`.
 fn found_at<S: Stable>(
     alloc: Global,
     store: &mut S,
