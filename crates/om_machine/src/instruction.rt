@@ -82,21 +82,21 @@ impl Machine {
         rows!(effect_rows!(self inst))
     }
 
-    // The number of a register.
+    // Returns the number of a register.
     fn operand(&self, r: Reg) -> u32
         ensures { result ≡ reg self.now r }
     {
         self.number(r.value() as usize)
     }
 
-    // The sum of a register and an immediate.
+    // Returns the sum of a register and an immediate.
     fn address(&self, base: Reg, imm: Imm12) -> u32
         ensures { result ≡ address_of self.now base imm }
     {
         add(self.operand(base), imm.value().cast_unsigned())
     }
 
-    // A branch to an offset from its own address.
+    // Returns the effect of a branch to an offset from its own address.
     #[tactic(auto, unfolding(crate::specs::Effects::branch_effect))]
     fn branch(&self, holds: bool, offset: Off13) -> EffectNow
         ensures effect { told self.now result ≡ branch_effect self.now holds offset }
