@@ -237,7 +237,7 @@ impl<S: Stable> Member<S> {
         }
     }
 
-    // A process that is in is up, and knows a round.
+    // Notes that a process that is in is up, and knows a round.
     fn rise(&mut self, round: u32)
         ensures { (core : CoreState) → self.old.standing ≡ stands.In core
             → self.new ≡ record self.old { standing = stands.Up core; round = round } }
@@ -315,7 +315,7 @@ impl<S: Stable> Member<S> {
         }
     }
 
-    // A process that is up is in.
+    // Notes that a process that is up is in.
     fn go_in(&mut self)
         ensures { (core : CoreState) → self.old.standing ≡ stands.Up core → self.new ≡ record self.old { standing = stands.In core } }
     {
