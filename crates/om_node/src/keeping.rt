@@ -170,7 +170,7 @@ impl Kept {
     }
 }
 
-// The rows of those of the outputs that are released.
+// Returns the rows of those of the outputs that are released.
 fn released_rows(alloc: Global, outputs: &[Made], released: u64) -> Result<NewRows, WorkerFault>
     ensures first { IfOk result (λ rows. rows.first ≡ first_number outputs.now) }
     ensures recs { IfOk result (λ rows. bytes_of rows.recs.items ≡ released_recs outputs.now released) }
@@ -200,7 +200,7 @@ fn released_records(
     Ok(recs)
 }
 
-// The row of the senders from a number of receipts on, up to another.
+// Returns the row of the senders from a number of receipts on, up to another.
 fn sender_rows(
     alloc: Global,
     senders: &[u8],
