@@ -298,7 +298,7 @@ impl<'a> Diary<'a> {
         self.finished(rt, front, is_finished)
     }
 
-    // The round is finished, if it is.
+    // Tells the recorder that the round is finished, if it is.
     fn finished<R: Wait>(
         &self,
         rt: &R,
