@@ -125,7 +125,8 @@ impl History {
         self.interval = interval;
     }
 
-    // The place of the first receipt that is in memory only; marks are not looked at again once they are firm.
+    // Returns the place of the first receipt that is in memory only; marks are not looked at again once they are
+    // firm.
     fn first_loose(&mut self) -> Option<u32>
         ensures { lane_in self.new ≡ lane_in self.old }
     {
@@ -139,7 +140,7 @@ impl History {
         None
     }
 
-    // Up to which interval all is stored, once so many receipts more are, or all.
+    // Returns up to which interval all is stored, once so many receipts more are, or all.
     fn saved(&self, many: Option<usize>) -> u32
         ensures { result ≡ (saved many (lane_in self.now).progress).safe }
     {

@@ -52,7 +52,7 @@ pub struct Lane {
     pub why: Option<Answer>,
 }
 
-// The least place with this room for a word.
+// Returns the least place with this room for a word.
 fn fitted(x: u32, free: u32, extent: Option<Extent>) -> u32 {
     match extent {
         Some(extent) => x.max(free.saturating_add(4).saturating_sub(extent.shift)),

@@ -19,7 +19,8 @@ use std::alloc::AllocError;
 const TRAIL: u32 = 320;
 
 impl Page {
-    // The way of a refused message, if it is one to this lane; of one that was sent long ago, the end alone.
+    // Draws the way of a refused message, if it is one to this lane; of one that was sent long ago, the end
+    // alone.
     fn trail(&mut self, frame: Option<Frame>, to: Spot) -> Result<(), AllocError> {
         let Some(frame) = frame else {
             return Ok(());
@@ -66,14 +67,14 @@ impl Page {
         }
     }
 
-    // A new incarnation of a process.
+    // Begins a new incarnation of a process.
     fn begin_inc(&mut self, p: usize, inc: u32) {
         if let Some(lane) = self.lanes.get_mut(p) {
             lane.inc = inc;
         }
     }
 
-    // The interval and the incarnation of a process that is back.
+    // Writes the interval and the incarnation of a process that is back.
     fn tell_back(
         &mut self,
         on: bool,

@@ -38,7 +38,7 @@ pub struct Picture {
     pub(crate) histories: Vec<History>,
 }
 
-// The left side, behind names of so many characters.
+// Returns the left side, behind names of so many characters.
 fn left_side(longest: u32) -> u32
     ensures some { 0 < result }
     ensures most { result ≤ MOST_LEFT }
@@ -95,7 +95,7 @@ impl Picture {
         self.end_round(alloc, step, changed)
     }
 
-    // The event of a line is counted; with the first line of the window, the picture begins.
+    // Counts the event of a line; with the first line of the window, the picture begins.
     fn begin(&mut self, line: usize) -> Result<(), AllocError>
         ensures { OnOk result (ReachesWindow (sketch_of self.old) (sketch_of self.new) line) }
     {
@@ -189,7 +189,7 @@ impl Picture {
         }
     }
 
-    // The recovery state is this one from now on: whether it was another.
+    // Takes the recovery state that holds from now on, and returns whether it is another.
     fn change(&mut self, recovery: DepVec) -> bool
         ensures { sketch_of self.new ≡ sketch_of self.old }
     {
