@@ -127,7 +127,7 @@ impl Down {
         }
     }
 
-    // The process as it was right after receipt `x`, from a checkpoint of its own.
+    // Replays the process to what it was right after receipt `x`, from a checkpoint of its own.
     fn replayed<S: Stable>(
         &self,
         alloc: Global,

@@ -15,7 +15,7 @@ use crate::status::Status;
 use om_format::{Receipt, decode_receipt};
 use std::alloc::{AllocError, Global};
 
-// The receipt that these bytes spell, which names interval `y`.
+// Reads the receipt that these bytes spell, which names interval `y`.
 fn receipt_at(alloc: Global, y: u32, bytes: &[u8]) -> Result<Receipt, ReplayFault>
     ensures found { IfOk result (λ r. SpellsReceipt (receipt_record r) bytes.now) }
     ensures named { IfOk result (λ r. r.interval ≡ y) }

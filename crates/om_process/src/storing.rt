@@ -138,7 +138,7 @@ impl ProcCore {
         })
     }
 
-    // The row of a checkpoint of now.
+    // Returns the row of a checkpoint of now.
     fn row(&self) -> PendingRow
         ensures { result ≡ checkpoint_row self.now }
     {
@@ -150,7 +150,7 @@ impl ProcCore {
         }
     }
 
-    // The process as a checkpoint.
+    // Returns the process as a checkpoint.
     fn picture(&self, alloc: Global) -> Result<Checkpoint, AllocError>
         ensures { IfOk result (λ c. IsOf self.now.own self.now.now (checkpoint_record c)) }
     {
@@ -226,7 +226,7 @@ fn add_rows(rows: &mut Vec<PendingRow>, log: &[Logged])
     }
 }
 
-// The messages as queues of a checkpoint.
+// Returns the messages as queues of a checkpoint.
 fn queues_of(alloc: Global, outbox: &Vec<Messages>) -> Result<Vec<Queue>, AllocError>
     ensures { IfOk result (λ queues. map queue_record queues.items ≡ outbox.now.items) }
 {

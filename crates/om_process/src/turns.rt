@@ -32,7 +32,7 @@ pub struct Ran {
     pub refused: u64,
 }
 
-// A body of bytes of memory.
+// Copies bytes of memory into a body.
 fn copied(alloc: Global, machine: &Machine, addr: u32, len: u32) -> Result<Body, AllocError>
     requires { IsBuffer machine.now addr len }
     ensures bytes { IfOk result (λ body. body ≡ slice_range machine.now.memory addr (addr + len)) }
