@@ -34,7 +34,7 @@ pub fn answer_without_change(trees: &Trees, n: usize, row: &Row) -> Option<Resul
     answer_amid(trees, n, row)
 }
 
-// The answer to a row above all of its process's.
+// Returns the answer to a row above all of its process's.
 fn answer_beyond(trees: &Trees, n: usize, row: &Row) -> Option<Result<Note, NoteError>>
     requires in_order { AreTrees trees.now }
     requires lawful { IsLawful n (held trees.now) }
@@ -49,7 +49,7 @@ fn answer_beyond(trees: &Trees, n: usize, row: &Row) -> Option<Result<Note, Note
     }
 }
 
-// The answer to a row with others of its process at its interval or above.
+// Returns the answer to a row with others of its process at its interval or above.
 fn answer_amid(trees: &Trees, n: usize, row: &Row) -> Option<Result<Note, NoteError>>
     requires in_order { AreTrees trees.now }
     requires lawful { IsLawful n (held trees.now) }
@@ -125,7 +125,7 @@ fn is_at_most(low: &Row, high: &Row) -> bool
     low.vec.leq(&high.vec) && low.got.leq(&high.got)
 }
 
-// The interval of the nearest row below, where it has not at most the row's vectors.
+// Returns the interval of the nearest row below, where it has not at most the row's vectors.
 fn fault_below(trees: &Trees, n: usize, row: &Row) -> Option<u32>
     requires in_order { AreTrees trees.now }
     requires lawful { IsLawful n (held trees.now) }
@@ -140,7 +140,7 @@ fn fault_below(trees: &Trees, n: usize, row: &Row) -> Option<u32>
     }
 }
 
-// The interval of the nearest row above, where it has not at least the row's vectors.
+// Returns the interval of the nearest row above, where it has not at least the row's vectors.
 fn fault_above(trees: &Trees, n: usize, row: &Row) -> Option<u32>
     requires in_order { AreTrees trees.now }
     requires lawful { IsLawful n (held trees.now) }

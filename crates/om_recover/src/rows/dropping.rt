@@ -28,7 +28,7 @@ fn drop_below<V: Drop>(entries: &mut BTreeMap<(Pid, u32), V>, pid: Pid, from: u3
     }
 }
 
-// The interval of a process's first entry, if that is below a bound.
+// Returns the interval of a process's first entry, if that is below a bound.
 fn first_below<V>(entries: &BTreeMap<(Pid, u32), V>, pid: Pid, from: u32) -> Option<u32>
     ensures { MatchOption result (HasNoneBelow entries.now.entries pid from) (IsBelowBound entries.now.entries pid from) }
 {

@@ -78,7 +78,7 @@ fn row(kind: RowKind, pid: Pid, interval: u32, vectors: Vectors) -> Row
     }
 }
 
-// The vectors of an interval that has a record.
+// Returns the vectors of an interval that has a record.
 fn vectors_at(trees: &Trees, pid: Pid, x: u32) -> Lent<'_>
     requires in_order { AreTrees trees.now }
     requires there { (kind : _) × Has (held trees.now) kind pid x }

@@ -74,7 +74,7 @@ fn pass<S: Shelf>(shelf: &S, state: &DepVec, memories: &mut FailedClimbs, work: 
     higher
 }
 
-// The state after an attempt at the process's least stable interval above it, if there is one.
+// Returns the state after an attempt at the process's least stable interval above it, if there is one.
 fn raised_at<S: Shelf>(
     shelf: &S,
     state: &DepVec,
@@ -101,7 +101,7 @@ fn raised_at<S: Shelf>(
     }
 }
 
-// The least stable interval of a process above its place of the state.
+// Returns the least stable interval of a process above its place of the state.
 fn least_above<S: Shelf>(shelf: &S, state: &DepVec, pid: Pid) -> Option<u32>
     requires lawful { IsLawful (length state.now) (S.rows shelf.now) }
     requires process { pid < length state.now }
