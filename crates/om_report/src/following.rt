@@ -246,7 +246,7 @@ fn tell_all<F: Follower>(
     follower.pause()
 }
 
-// The outputs of each lane.
+// Returns the outputs of each lane.
 fn outputs_of(alloc: Global, lanes: Vec<FollowedOutputs>) -> Result<Vec<Vec<Output>>, AllocError>
     ensures { IfOk result (λ outputs. outputs.items ≡ map (λ lane. lane.outputs) lanes.items) }
 {

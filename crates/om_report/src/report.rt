@@ -25,7 +25,7 @@ pub struct Report {
     pub front: Front,
 }
 
-// The released outputs of each process.
+// Returns the released outputs of each process.
 fn released_by(alloc: Global, manager: &Manager) -> Result<Vec<Vec<Output>>, AllocError>
     ensures long { IfOk result (λ released. length released.items ≡ process_count manager.now) }
     ensures released { IfOk result (λ released. AreReleasedBy manager.now released.items) }
