@@ -46,7 +46,7 @@ fn status_of(world: &World<MemStable>, pid: Pid) -> Status
     }
 }
 
-// The text of the run without failures of a world in its end.
+// Returns the text of the run without failures of a world in its end.
 fn text_of(
     alloc: Global,
     form: BytesForm,
@@ -61,7 +61,7 @@ fn text_of(
     run_text(alloc, form, programs, &report.released, &report.statuses)
 }
 
-// The text of the run without failures of a world in its end, where it is that of the report.
+// Returns the text of the run without failures of a world in its end, where it is that of the report.
 fn compared(
     alloc: Global,
     form: BytesForm,

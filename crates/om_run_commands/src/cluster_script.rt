@@ -166,7 +166,7 @@ impl ClusterScript {
         Ok(())
     }
 
-    // A line that says how the cluster is run, by its first word and those behind it.
+    // Reads a line that says how the cluster is run, by its first word and those behind it.
     fn add_setting(&mut self, first: &[u8], words: &[&[u8]]) -> Result<(), BuildError<LineError>>
         ensures { Gives (λ _. self.new) result (setting_line self.old first.now (map (λ word. word.now) words.now)) }
     {
@@ -228,7 +228,7 @@ impl Builder for ClusterScript {
     }
 }
 
-// Room for lines, where they are to be kept.
+// Makes room for lines, where they are to be kept.
 fn lines_kept(alloc: Global, keeps_lines: bool) -> Option<Vec<u8>> {
     if keeps_lines {
         Some(Vec::new(alloc))
@@ -261,7 +261,7 @@ fn keep(lines: &mut Vec<u8>, words: &[&[u8]]) -> Result<(), AllocError> {
     Ok(())
 }
 
-// The number of receipts that the one word stands for.
+// Reads the number of receipts that the one word stands for.
 fn receipts_in(words: &[&[u8]]) -> Result<u32, LineError>
     ensures { result ≡ count_in number_of (map (λ word. word.now) words.now) }
 {
@@ -274,7 +274,7 @@ fn receipts_in(words: &[&[u8]]) -> Result<u32, LineError>
     }
 }
 
-// The number of instructions that the one word stands for.
+// Reads the number of instructions that the one word stands for.
 fn instructions_in(words: &[&[u8]]) -> Result<u64, LineError>
     ensures { result ≡ count_in long_number_of (map (λ word. word.now) words.now) }
 {

@@ -51,7 +51,7 @@ pub(crate) fn name_in(programs: &Programs, p: usize) -> &str
     }
 }
 
-// The line of an output of a process.
+// Makes the line of an output of a process.
 fn line_of(
     alloc: Global,
     form: BytesForm,

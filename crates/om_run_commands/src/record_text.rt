@@ -39,7 +39,7 @@ impl Frames {
         self.numbers.get(&(from, to, inc, ssn)).copied()
     }
 
-    // The event that an act is, if it is one.
+    // Returns the event that an act is, if it is one.
     fn event_of(&self, act: Act) -> Option<Event> {
         match act {
             Act::Run { process, steps } => Some(Event::Run {
