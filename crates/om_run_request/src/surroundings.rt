@@ -325,7 +325,7 @@ impl<'a, 'w, R: Wait> Surroundings<'a, 'w, R> {
     }
 }
 
-// The name of the file that is made for it, if any.
+// Returns the name of the file that is made for it, if any.
 fn file_made_by<'a>(checking: Checking<'a>) -> Option<&'a str> {
     match checking {
         Checking::Off
@@ -356,7 +356,7 @@ fn clash_of(
     Ok(clash_with_databases(rt, path))
 }
 
-// The first process whose files failed, and what the system answered.
+// Returns the first process whose files failed, and what the system answered.
 fn first_answer(notes: Option<&Notes>) -> Option<(usize, io::Error)> {
     notes?.first()
 }
@@ -372,8 +372,8 @@ fn refusal_of(error: PlaceError) -> CommandError
     }
 }
 
-// The file of this name, which is made, or emptied. Its descriptor is none of the standard streams', which may be closed: what is
-// meant for one of these must not land in the file.
+// Opens the file of this name, which is made, or emptied. Its descriptor is none of the standard streams', which may be closed: what
+// is meant for one of these must not land in the file.
 fn made(rt: &HostRuntime, path: &str) -> io::Result<File> {
     fs::create(rt, path).and_then(|file| file.try_clone())
 }

@@ -52,7 +52,7 @@ impl Stage {
         self.to_begin.unpark();
     }
 
-    // The run is over, or was refused before the cluster started.
+    // Notes that the run is over, or was refused before the cluster started.
     fn end(&self) {
         self.is_over.store(true, SeqCst);
         self.to_begin.unpark();
