@@ -46,7 +46,7 @@ fn is_out(fault: RunFault) -> bool
     }
 }
 
-// The fault that is told, of those that workers ended with.
+// Returns the fault that is told, of those that workers ended with.
 fn fault_of<K: Naming, S: Stable>(results: &[Result<Finished<K, S>, RunFault>]) -> Option<RunFault>
     ensures none { IfNone result (AreBelow IsWell (length results.now) results.now) }
     ensures least { IfSome result (IsLeastFault results.now) }
