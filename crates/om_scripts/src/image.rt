@@ -45,7 +45,7 @@ pub(crate) fn image_of(
     Ok(Image { bytes, size, ext })
 }
 
-// The bytes of the words, the lowest of each first.
+// Returns the bytes of the words, the lowest of each first.
 fn bytes_of(alloc: Global, words: &[u32]) -> Result<Vec<u8>, AllocError>
     requires { 4 * length words.now < 2 ^ 64 }
     ensures bytes { IfOk result (λ bytes. bytes.items ≡ flat_map (to_le_bytes w32) words.now) }

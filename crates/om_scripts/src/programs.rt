@@ -113,7 +113,7 @@ impl Programs {
         Ok(images)
     }
 
-    // The image of a process.
+    // Copies the image of a process.
     fn image_of(&self, alloc: Global, process: usize) -> Result<Image, AllocError>
         requires { process < length self.now.processes }
         ensures program { IfOk result (λ image. slice_get (programs_of self.now) process ≡ Some (program_of image)) }
@@ -125,7 +125,7 @@ impl Programs {
         }
     }
 
-    // The image at a place.
+    // Copies the image at a place.
     fn copy_at(&self, alloc: Global, place: usize) -> Result<Image, AllocError>
         requires { place < length self.now.programs }
         ensures program { IfOk result (λ image. program_of image ≡ program_at self.now place) }
@@ -182,7 +182,7 @@ impl Programs {
         Ok(())
     }
 
-    // A program by a new name.
+    // Adds a program by a new name.
     fn push_program(&mut self, alloc: Global, name: &str, image: Image) -> Result<(), AllocError>
         requires new { place_of name.now self.old.programs ≡ None }
         requires right { IsProgram (program_of image) }
@@ -194,7 +194,7 @@ impl Programs {
         self.programs.add(alloc, name, image)
     }
 
-    // The place of a program.
+    // Returns the place of a program.
     fn program_place(&self, name: &str) -> Option<usize>
         ensures { result ≡ place_of name.now self.now.programs }
     {
