@@ -88,7 +88,7 @@ fn run_shown(answer: Answer, ended: bool) -> Shown
     Shown::Run { sent, made, ends }
 }
 
-// The status, where it is the end of a program.
+// Returns the status, where it is the end of a program.
 fn end_of(status: Status) -> Option<Status>
     ensures { result ≡ end_of status }
 {
