@@ -169,7 +169,7 @@ impl RecordTree {
         }
     }
 
-    // The greatest interval that has a record.
+    // Returns the greatest interval that has a record.
     fn greatest(&self) -> Option<u32>
         ensures has { IfSome result (λ x. IsSome (map.get self.now x)) }
         ensures greatest { IfSome result (λ x. (y : ℕ) → x < y → map.get self.now y ≡ None) }
@@ -179,7 +179,7 @@ impl RecordTree {
         Some(*x)
     }
 
-    // The least interval that has a record.
+    // Returns the least interval that has a record.
     fn least(&self) -> Option<u32>
         ensures has { IfSome result (λ x. IsSome (map.get self.now x)) }
         ensures least { IfSome result (λ x. (y : ℕ) → y < x → map.get self.now y ≡ None) }
