@@ -39,7 +39,7 @@ fn damaged(y: u32, error: DecodeError) -> ReplayFault
     }
 }
 
-// The checkpoint of interval `c` that these bytes spell.
+// Reads the checkpoint of interval `c` that these bytes spell.
 fn checkpoint_at(alloc: Global, c: u32, bytes: &[u8]) -> Result<Checkpoint, ReplayFault>
     ensures found { IfOk result (λ checkpoint. IsSpelled (checkpoint_record checkpoint) bytes.now) }
     ensures named { IfOk result (λ checkpoint. checkpoint.head.interval ≡ c) }
