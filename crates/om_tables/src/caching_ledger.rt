@@ -107,7 +107,7 @@ fn up_to(mut rows: Vec<(u32, Vec<u8>)>, to: u32) -> Vec<(u32, Vec<u8>)>
     rows
 }
 
-// A copy of some receipts.
+// Copies some receipts.
 fn copied(alloc: Global, rows: &[(u32, Vec<u8>)]) -> Result<Vec<(u32, Vec<u8>)>, AllocError>
     ensures { IfOk result (λ copy. rows_of copy.items ≡ rows_of rows.now) }
 {
