@@ -34,7 +34,7 @@ pub fn hex_word(word: &[u8]) -> Option<u32>
     narrow(value_of(word, 16)?)
 }
 
-// The number, where it is below 2^32.
+// Returns the number, where it is below 2^32.
 fn narrow(number: u64) -> Option<u32>
     ensures { result ≡ below (2 ^ 32) (Some number) }
 {
