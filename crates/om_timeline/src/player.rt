@@ -149,7 +149,7 @@ impl Player {
         Ok(Some(answer))
     }
 
-    // The machine of a process so many turns on, if the process makes nothing in them.
+    // Returns the machine of a process so many turns on, if the process makes nothing in them.
     #[tactic(auto, using(crate::proofs::Parting::ahead_of))]
     fn ahead(&self, alloc: Global, process: usize, turns: u64) -> Result<Option<Alone>, AllocError>
         requires { self.now.begun ≡ None }

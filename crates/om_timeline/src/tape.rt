@@ -35,7 +35,7 @@ pub(crate) fn is_seated(world: &World<MemStable>, process: Pid, n: u32) -> bool
     }
 }
 
-// The receipt of the frame of a number.
+// Returns the receipt of the frame of a number.
 #[tactic(auto, using(crate::proofs::Reading::is_received))]
 fn received(
     alloc: Global,
@@ -51,7 +51,7 @@ fn received(
     }
 }
 
-// The machine that the process has.
+// Copies the machine that the process has.
 #[tactic(auto, using(crate::proofs::Reading::is_machine))]
 fn machine_now(alloc: Global, world: &World<MemStable>, process: Pid) -> Result<Deed, AllocError>
     ensures { IfOk result (λ deed. IsDeed deed process world.now Kind.Back) }
