@@ -79,7 +79,7 @@ pub fn ground_of<K: Naming>(
     Ok((ground, ends, passes))
 }
 
-// A bell for each of so many processes.
+// Makes a bell for each of so many processes.
 fn bells_of(alloc: Global, n: usize) -> Result<Vec<Bell>, AllocError> {
     let mut bells = Vec::with_capacity(alloc, n)?;
     for _ in 0..n {

@@ -51,12 +51,13 @@ impl Census {
         }
     }
 
-    // A store is opened.
+    // Counts a store that is opened.
     fn open(&self) {
         self.opened.fetch_add(1, SeqCst);
     }
 
-    // A process has looked, and found this. What lies beyond a start is counted first: who sees that all have looked sees it too.
+    // Counts a process that has looked, and found this. What lies beyond a start is counted first: who sees that all have looked
+    // sees it too.
     fn look(&self, found: &Found) {
         if found.is_beyond_start() {
             self.beyond.fetch_add(1, SeqCst);
@@ -196,7 +197,7 @@ fn put_about<S: Ledger>(
     }
 }
 
-// The one record of what a store is of.
+// Makes the one record of what a store is of.
 fn about_recs(alloc: Global, image: &Image, pid: Pid, n: usize) -> Result<Vec<Vec<u8>>, AllocError>
     requires { n ≤ MAX_PROCESSES }
     ensures { IfOk result (λ recs. length recs.items ≡ 1) }

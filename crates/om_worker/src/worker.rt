@@ -89,14 +89,14 @@ impl Handed {
         }
     }
 
-    // The process was rolled back to interval r.
+    // Notes that the process was rolled back to interval `r`.
     fn cut(&mut self, r: u32) {
         self.receipts = r;
         self.checkpoint = self.checkpoint.min(r);
     }
 }
 
-// The interval of the last checkpoint among these rows, 0 where there is none.
+// Returns the interval of the last checkpoint among these rows, 0 where there is none.
 fn last_checkpoint(rows: &[PendingRow]) -> u32 {
     let mut last = 0;
     for row in rows {
@@ -328,7 +328,7 @@ impl<'a, K: Naming> Worker<'a, K> {
         watch.show(rt, pid, sight);
     }
 
-    // A turn of a process that is up: it runs, where all are.
+    // Takes a turn of a process that is up: it runs, where all are.
     #[inline(never)]
     fn go_on<J: Series, S: Ledger, R: Wait + Clock>(
         &mut self,
@@ -358,7 +358,7 @@ impl<'a, K: Naming> Worker<'a, K> {
         }
     }
 
-    // A turn of a process that is up and goes on, or leaves: then its store is here.
+    // Takes a turn of a process that is up and goes on, or leaves: then its store is here.
     #[inline(never)]
     fn step<J: Series, S: Ledger, R: Wait + Clock>(
         &mut self,
