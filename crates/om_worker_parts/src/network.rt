@@ -52,7 +52,7 @@ fn add_take(ends: &mut Vec<Ends>, to: usize, take: TakePass) -> Result<(), Alloc
     Ok(())
 }
 
-// The inboxes of one sender, and its passes to put. Each receiver gets one pass more to take.
+// Makes the inboxes of one sender, and its passes to put. Each receiver gets one pass more to take.
 fn connect(
     alloc: Global,
     from: usize,
