@@ -40,7 +40,7 @@ fn add_frames(
     Ok(())
 }
 
-// The messages to each process behind the first few that are kept, on their way.
+// Returns the messages to each process behind the first few that are kept, on their way.
 fn frames_behind(
     alloc: Global,
     core: &ProcCore,

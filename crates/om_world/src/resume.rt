@@ -63,7 +63,7 @@ impl<S: Stable> World<S> {
         }
     }
 
-    // A process that is in and not rolled back goes on as it was.
+    // Lets a process that is in and not rolled back go on as it was.
     fn go_on(&mut self, alloc: Global, p: usize) -> Result<(), Refusal>
         requires there { p < length self.old.programs }
         requires due { IsToGoOn self.old p }
