@@ -68,7 +68,7 @@ impl NewRows {
 pub struct Deposit {
     pub outputs: NewRows,
     pub senders: NewRows,
-    /// Of how many receipts the senders are known to the store then.
+    /// The number of receipts whose senders are known to the store then.
     pub known: usize,
 }
 
@@ -119,7 +119,7 @@ pub struct Due {
 pub struct Kept {
     /// The number of the output behind those of the table.
     pub outputs: u64,
-    /// Of how many receipts the senders stand there.
+    /// The number of receipts whose senders stand there.
     pub senders: usize,
 }
 
