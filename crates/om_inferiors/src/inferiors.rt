@@ -172,7 +172,7 @@ impl Inferiors {
         Ok(Told::Text(group_stop_text(alloc, self.focus, Stop::Paused)?.into_bytes()))
     }
 
-    // Returns the number of the one that is meant.
+    // Returns the number of the process that is meant.
     fn number_of(&self, whom: Whom) -> u32
         ensures { result ≡ number_of self.now whom }
     {
@@ -196,7 +196,7 @@ impl Inferiors {
 
 // Who goes on, and back, and what is set.
 impl Inferiors {
-    // Returns the text of a stop, and means the one that is told from now on.
+    // Returns the text of a stop; from now on the process that stopped is meant.
     fn stopped(&mut self, alloc: Global, stopped: Stopped) -> Result<Told, AllocError>
         requires { stopped.place < length self.old.members.items }
         ensures told { IfOk result (λ told. IsTold self.old stopped.place stopped.stop told self.new) }
