@@ -131,7 +131,7 @@ fn shown(alloc: Global, bytes: &DatabaseBytes, form: BytesForm) -> Result<Vec<u8
     }
 }
 
-// Returns that text of a store of five tables.
+// Returns the text that `show_bodies_in` writes of a store of five tables.
 #[inline(never)]
 fn shown_of_five(
     alloc: Global,
@@ -146,7 +146,7 @@ fn shown_of_five(
     Ok(text)
 }
 
-// Returns that text of a store of two tables.
+// Returns the text that `show_bodies_in` writes of a store of two tables.
 #[inline(never)]
 fn shown_of_two(
     alloc: Global,

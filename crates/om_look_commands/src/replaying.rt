@@ -78,7 +78,7 @@ fn replayed(alloc: Global, bytes: &DatabaseBytes, interval: u32) -> Result<Vec<u
     }
 }
 
-// Returns that text of a store of five tables.
+// Returns the text that `replay_in` writes of a store of five tables.
 #[inline(never)]
 fn replayed_of_five(
     alloc: Global,
@@ -92,7 +92,7 @@ fn replayed_of_five(
     Ok(text)
 }
 
-// Returns that text of a store of two tables.
+// Returns the text that `replay_in` writes of a store of two tables.
 #[inline(never)]
 fn replayed_of_two(
     alloc: Global,

@@ -99,7 +99,7 @@ fn shown(alloc: Global, bytes: &DatabaseBytes) -> Result<Vec<u8>, CommandError>
     }
 }
 
-// Returns that text of a store of five tables.
+// Returns the text that `show_in` writes of a store of five tables.
 #[inline(never)]
 fn shown_of_five(
     alloc: Global,
@@ -113,7 +113,7 @@ fn shown_of_five(
     Ok(text)
 }
 
-// Returns that text of a store of two tables.
+// Returns the text that `show_in` writes of a store of two tables.
 #[inline(never)]
 fn shown_of_two(alloc: Global, conn: Connection<FileStore<Memory>>) -> Result<Vec<u8>, CommandError>
     requires { conn.in_transaction ≡ false }

@@ -90,7 +90,7 @@ fn stepped(
     }
 }
 
-// Returns that text of a store of five tables.
+// Returns the text that `steps_in` writes of a store of five tables.
 #[inline(never)]
 fn stepped_of_five(
     alloc: Global,
@@ -106,7 +106,7 @@ fn stepped_of_five(
     Ok(text)
 }
 
-// Returns that text of a store of two tables.
+// Returns the text that `steps_in` writes of a store of two tables.
 #[inline(never)]
 fn stepped_of_two(
     alloc: Global,
