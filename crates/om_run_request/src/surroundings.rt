@@ -325,7 +325,7 @@ impl<'a, 'w, R: Wait> Surroundings<'a, 'w, R> {
     }
 }
 
-// Returns the name of the file that is made for it, if any.
+// Returns the name of the file that is made beside the text, if any.
 fn file_made_by<'a>(checking: Checking<'a>) -> Option<&'a str> {
     match checking {
         Checking::Off
