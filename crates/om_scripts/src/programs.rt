@@ -49,7 +49,7 @@ impl Model for Programs {
 }
 
 impl Programs {
-    /// Makes them with no program and no process, and open for both.
+    /// Makes a list of no program and no process, open for both.
     pub fn new(alloc: Global) -> Programs
         ensures { result ≡ no_programs }
     {
@@ -137,7 +137,7 @@ impl Programs {
         }
     }
 
-    /// Closes them as other lines begin: what is given from now on is out of place.
+    /// Closes the list as other lines begin: a program or a process that is given from now on is out of place.
     pub fn close(&mut self)
         ensures { self.new ≡ record self.old { is_closed = true } }
     {
