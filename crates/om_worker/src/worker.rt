@@ -81,7 +81,7 @@ struct Handed {
 }
 
 impl Handed {
-    // Makes it for a process at its start, whose checkpoint is stored.
+    // Makes what a process at its start has handed over: its checkpoint is stored.
     fn new() -> Handed {
         Handed {
             receipts: 0,
