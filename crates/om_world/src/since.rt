@@ -66,7 +66,7 @@ impl Since {
         }
     }
 
-    // Notes that a round finishes, and is about to cut this.
+    // Notes that a round finishes, and is about to cut what was received.
     pub(crate) fn finish(&mut self, live: &Remembered)
         ensures { self.new ≡ record { before = live.now.entries; stored = false } }
     {
