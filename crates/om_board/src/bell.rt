@@ -92,7 +92,7 @@ impl Bell {
         }
     }
 
-    /// Wakes its worker, for which a process has put something.
+    /// Wakes the bell's worker, for which a process has put something.
     pub fn tell(&self, from: usize) {
         self.senders.fetch_or(bit_of(from), SeqCst);
         self.ring();
