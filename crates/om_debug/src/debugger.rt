@@ -256,7 +256,7 @@ impl Debugger {
         Ok(())
     }
 
-    /// Stops it there no more.
+    /// Takes the breakpoint at an address away.
     pub fn clear_break(&mut self, address: u32)
         ensures { self.new ≡ with_breaks self.old (clear_break address self.old.breaks) }
     {
@@ -274,7 +274,7 @@ impl Debugger {
         Ok(())
     }
 
-    /// Stops it there no more.
+    /// Takes a watchpoint away.
     pub fn clear_watch(&mut self, watch: Watch)
         ensures { self.new ≡ with_watches self.old (clear_watch watch self.old.watches) }
     {
