@@ -36,7 +36,7 @@ pub struct Inbox {
 }
 
 impl Inbox {
-    /// Makes one with nothing in it.
+    /// Makes an inbox with nothing in it.
     pub fn new(alloc: Global) -> Inbox {
         Inbox {
             alloc,
