@@ -58,7 +58,7 @@ impl<J: Series, S: Stable> Model for Landing<J, S> {
 }
 
 impl<J: Series, S: Ledger> WriteRequest<J, S> {
-    /// Stores it, in this thread. The ticket comes back with the store.
+    /// Stores what is requested, in this thread. The ticket comes back with the store.
     pub fn fly(self, alloc: Global) -> Landing<J, S>
         ensures { result.ticket ≡ self.ticket }
     {
@@ -154,7 +154,7 @@ impl<J: Series, S: Stable> FlightChannel<J, S> {
 }
 
 impl<J: Series, S: Ledger> FlightChannel<J, S> {
-    /// Has it stored, in the other thread. Where that is gone, it is stored at once, and comes back.
+    /// Has what is requested stored, in the other thread. Where that is gone, it is stored at once, and comes back.
     pub fn send<R: Wait>(
         &self,
         rt: &R,
