@@ -99,7 +99,7 @@ impl Reasons {
         };
     }
 
-    /// Writes them to standard error; where that refuses, nothing comes of it.
+    /// Writes the reasons to standard error; where that refuses, nothing comes of it.
     pub fn say<R: Eprint>(&self, rt: &R) {
         if !self.text.is_empty() {
             let _ = rt.eprint(self.text.as_str());
