@@ -105,7 +105,7 @@ impl<'a> Lent<'a> {
         number_of(self.got, sender)
     }
 
-    /// Returns whether they are these.
+    /// Returns whether the vectors are these.
     pub fn are(&self, vec: &DepVec, got: &DepVec) -> bool
         ensures vec { IsTrue result → self.now.vec ≡ vec.now }
         ensures got { IsTrue result → self.now.got ≡ got.now }
