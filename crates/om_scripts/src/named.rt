@@ -31,7 +31,7 @@ impl<V: Drop> Named<V> {
         }
     }
 
-    /// Returns how many there are.
+    /// Returns how many names there are.
     pub fn len(&self) -> usize
         ensures { result ≡ length self.now }
     {
