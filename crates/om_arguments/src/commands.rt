@@ -349,7 +349,7 @@ pub(crate) fn command<'a>(alloc: Global) -> Result<Command<'a>, AllocError> {
     with_clusters(alloc, with_scripts(alloc, command)?)
 }
 
-// With the subcommands that read words, records or events.
+// Adds the subcommands that read words, records or events.
 fn with_scripts<'a>(alloc: Global, command: Command<'a>) -> Result<Command<'a>, AllocError> {
     let command = with_command(command, command_of(alloc, Subcommand::Decode))?;
     let command = with_command(command, command_of(alloc, Subcommand::Image))?;
@@ -358,7 +358,7 @@ fn with_scripts<'a>(alloc: Global, command: Command<'a>) -> Result<Command<'a>, 
     with_command(command, command_of(alloc, Subcommand::Draw))
 }
 
-// With those that run clusters, and look into what they stored.
+// Adds the subcommands that run clusters, and look into what they stored.
 fn with_clusters<'a>(alloc: Global, command: Command<'a>) -> Result<Command<'a>, AllocError> {
     let command = with_command(command, command_of(alloc, Subcommand::Run))?;
     let command = with_command(command, command_of(alloc, Subcommand::Explore))?;
@@ -474,23 +474,23 @@ fn run_command<'a>(alloc: Global) -> Result<Command<'a>, AllocError> {
     with_forms(alloc, with_kills(alloc, command)?)
 }
 
-// With the options that say which processes are to fail.
+// Adds the options that say which processes are to fail.
 fn with_kills<'a>(alloc: Global, command: Command<'a>) -> Result<Command<'a>, AllocError> {
     with_arg(command.arg(kills_option(alloc))?, seed_option(alloc))
 }
 
-// With the options that say how outputs are written, and what is a failure.
+// Adds the options that say how outputs are written, and what is a failure.
 fn with_forms<'a>(alloc: Global, command: Command<'a>) -> Result<Command<'a>, AllocError> {
     let command = with_arg(command.arg(text_option(alloc))?, raw_option(alloc))?;
     command.arg(strict_option(alloc))
 }
 
-// With the options that check a run.
+// Adds the options that check a run.
 fn with_checks<'a>(alloc: Global, command: Command<'a>) -> Result<Command<'a>, AllocError> {
     command.arg(check_option(alloc))?.arg(witness_option(alloc))
 }
 
-// With the options that say what happened in a run.
+// Adds the options that say what happened in a run.
 fn with_tellings<'a>(alloc: Global, command: Command<'a>) -> Result<Command<'a>, AllocError> {
     let command = with_arg(command, record_option(alloc))?;
     with_arg(command, follow_option(alloc))

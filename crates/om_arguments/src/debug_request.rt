@@ -100,7 +100,7 @@ pub struct SymbolFile<'a> {
     pub file: &'a str,
 }
 
-// The request to show a process of a record, or all, or the process of a store.
+// Makes the request to show a process of a record, or all, or the process of a store.
 pub(crate) fn debug_request<'a>(found: &ArgMatches<'a>) -> Result<Request<'a>, Mistake<'a>>
     ensures { IfOk result (λ request. asked_by request ≡ Subcommand.Debug) }
 {
@@ -110,7 +110,7 @@ pub(crate) fn debug_request<'a>(found: &ArgMatches<'a>) -> Result<Request<'a>, M
     record_request(found)
 }
 
-// The request to show the process of a store, at an interval that is a number, where one is given.
+// Makes the request to show the process of a store, at an interval that is a number, where one is given.
 fn store_request<'a>(words: &[&'a str]) -> Result<Request<'a>, Mistake<'a>>
     ensures { IfOk result (λ request. asked_by request ≡ Subcommand.Debug) }
 {
@@ -124,7 +124,7 @@ fn store_request<'a>(words: &[&'a str]) -> Result<Request<'a>, Mistake<'a>>
     Ok(Request::DebugStore { file, interval })
 }
 
-// The request to show a process of a record, or all.
+// Makes the request to show a process of a record, or all.
 fn record_request<'a>(found: &ArgMatches<'a>) -> Result<Request<'a>, Mistake<'a>>
     ensures { IfOk result (λ request. asked_by request ≡ Subcommand.Debug) }
 {
@@ -145,7 +145,7 @@ fn refuse_stream<'a>(path: &str) -> Result<(), Mistake<'a>>
     Ok(())
 }
 
-// The program and the file of a word PROGRAM=FILE, of which neither is empty.
+// Returns the program and the file of a word PROGRAM=FILE, of which neither is empty.
 fn symbols_in<'a>(word: &'a str) -> Option<SymbolFile<'a>>
     ensures program { IfSome result (λ s. s.program.now ≡ before_first (λ byte. byte == 61) word.now) }
     ensures file { IfSome result (λ s. s.file.now ≡ after_first (λ byte. byte == 61) word.now) }

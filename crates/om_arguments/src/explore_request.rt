@@ -85,7 +85,7 @@ pub struct Exploring<'a> {
     pub all: bool,
     /// The most turns of each process.
     pub turns: u64,
-    /// Of the files of the runs that each different text came of first.
+    /// The prefix of the files of the runs that each different text came of first.
     pub witnesses: Option<&'a str>,
     /// How the bytes of outputs are written in which texts differ.
     pub form: OutputForm,
@@ -105,7 +105,7 @@ pub(crate) fn exploring_of<'a>(found: &ArgMatches<'a>) -> Result<Exploring<'a>, 
     })
 }
 
-// The number of an argument, and what stands for it where it is not given.
+// Returns the number of an argument, or what stands for it where it is not given.
 fn number_or<'a>(
     argument: &'a str,
     word: Option<&'a str>,

@@ -145,7 +145,7 @@ pub enum Look<'a> {
     },
 }
 
-// The request to show what a file holds.
+// Makes the request to show what a file holds.
 pub(crate) fn show_request<'a>(found: &ArgMatches<'a>) -> Result<Look<'a>, Mistake<'a>>
     ensures { IfOk result (λ look. looked_by look ≡ Subcommand.Show) }
 {
@@ -155,7 +155,7 @@ pub(crate) fn show_request<'a>(found: &ArgMatches<'a>) -> Result<Look<'a>, Mista
     })
 }
 
-// In which form the bodies of messages are asked for.
+// Returns in which form the bodies of messages are asked for.
 fn bodies_of<'a>(found: &ArgMatches<'a>) -> Option<OutputForm> {
     if found.get_flag(BODIES) {
         return Some(form_of(found.get_flag(TEXT)));
@@ -163,7 +163,7 @@ fn bodies_of<'a>(found: &ArgMatches<'a>) -> Option<OutputForm> {
     None
 }
 
-// The request to replay from a file to an interval, and so many steps on, where these are numbers.
+// Makes the request to replay from a file to an interval, and so many steps on, where these are numbers.
 pub(crate) fn replay_request<'a>(found: &ArgMatches<'a>) -> Result<Look<'a>, Mistake<'a>>
     ensures { IfOk result (λ look. looked_by look ≡ Subcommand.Replay) }
 {

@@ -46,7 +46,7 @@ pub struct Explored {
     pub end: End,
 }
 
-// The deliveries that can come next: by receiver, and there by sender.
+// Returns the deliveries that can come next: by receiver, and there by sender.
 fn deliveries(alloc: Global, trail: &Trail, n: usize) -> Result<Vec<Delivery>, AllocError>
     requires { n ≤ MAX_PROCESSES }
 {

@@ -18,7 +18,7 @@ use om_stable::MemStable;
 use om_world::{Event, World};
 use std::alloc::{AllocError, Global};
 
-// So many stores that hold nothing.
+// Makes `n` stores that hold nothing.
 fn empty_stores(alloc: Global, n: usize) -> Result<Vec<MemStable>, AllocError>
     ensures number { IfOk result (λ stores. length stores.items ≡ n) }
     ensures empty { IfOk result (λ stores. All IsEmpty stores.items) }
@@ -30,7 +30,7 @@ fn empty_stores(alloc: Global, n: usize) -> Result<Vec<MemStable>, AllocError>
     Ok(stores)
 }
 
-// The world of these images at its start.
+// Makes the world of these images at its start.
 pub(crate) fn begin(alloc: Global, images: &[Image]) -> Result<World<MemStable>, PlayFault>
     requires some { 1 ≤ length images.now }
     requires few { length images.now ≤ MAX_PROCESSES }
@@ -67,7 +67,7 @@ pub(crate) fn is_done(world: &World<MemStable>, pid: Pid) -> bool
     }
 }
 
-// Refused where one of so many processes has not ended.
+// Refuses where one of so many processes has not ended.
 fn all_done(world: &World<MemStable>, n: usize) -> Result<(), PlayFault>
     requires few { n ≤ MAX_PROCESSES }
     requires managed { n ≤ process_count world.now.manager }

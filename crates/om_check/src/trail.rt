@@ -109,7 +109,7 @@ impl Trail {
         Ok(())
     }
 
-    // Refused where a frame is not of these two.
+    // Refuses where a frame is not of these two.
     fn is_of(&self, frame: usize, from: Pid, to: Pid) -> Result<(), PlayFault>
         ensures { OnOk result (IsOf self.now.stage.world frame from to) }
     {

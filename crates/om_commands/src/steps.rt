@@ -45,7 +45,7 @@ pub fn replay_steps<S: Stable, W: Write>(
     write_answer(writer, &text)
 }
 
-// The text of the process that is replayed and goes on.
+// Returns the text of the process that is replayed and goes on.
 fn stepped<S: Stable>(
     alloc: Global,
     store: &mut S,

@@ -1,3 +1,5 @@
+//! The numbers of processes, and their limit.
+
 ghost use Rattle.std.specs.Prelude.{◌≡◌, ℕ, ◌<◌, ◌↔◌, IsSome, IfSome};
 ghost use Rattle.om_interval.specs.declared.pid.TheConstants.{MAX_PROCESSES};
 
@@ -24,7 +26,7 @@ impl Model for Pid {
 }
 
 impl Pid {
-    /// The process of that number, or `None` where no cluster has so many processes.
+    /// Returns the process of that number, or `None` where no cluster has so many processes.
     pub fn new(number: u32) -> Option<Pid>
         ensures in_range { IsSome result ↔ (number < MAX_PROCESSES) }
         ensures number { IfSome result (λ pid. pid ≡ number) }
@@ -37,7 +39,7 @@ impl Pid {
         }
     }
 
-    /// The process at a place of a vector.
+    /// Returns the process at a place of a vector.
     pub fn at(index: usize) -> Pid
         requires { index < MAX_PROCESSES }
         ensures { result ≡ index }
@@ -45,7 +47,7 @@ impl Pid {
         Self { index: index as u8 }
     }
 
-    /// The place of this process in vectors.
+    /// Returns the place of this process in vectors.
     pub fn index(self) -> usize
         ensures place { result ≡ self }
         ensures in_range { result < MAX_PROCESSES }

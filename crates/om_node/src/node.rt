@@ -102,7 +102,7 @@ impl<'a, J: Series, S: Stable> Model for DownNode<'a, J, S> {
         (record { program = program_of d.image.now; own = d.pid; n = d.n }) d.store.value };
 }
 
-// A value in a box of its own.
+// Puts a value into a box of its own.
 fn boxed<T: Drop>(alloc: Global, value: T) -> Result<Box<T>, AllocError>
     ensures { IfOk result (λ b. b.value ≡ value) }
 {

@@ -40,7 +40,7 @@ impl<'h, K: Naming, R: Wait, F: Follower> MainTask<K, R> for Following<'h, K, F>
     }
 }
 
-// All workers have ended: the follower is told of the rest, which they brought back. With the report of what it was told.
+// Tells the follower of the rest, which the workers brought back: all have ended. Returns the report of what it was told.
 fn close<K: Naming, R: Wait, G, O: Opener<R>, F: Follower>(
     cluster: &Cluster<'_, K, R, G, O>,
     parts: Result<Parts<K, O::Store>, RunFault>,

@@ -45,7 +45,7 @@ impl<'a, K: Naming, S: Stable> Promise<Result<Finished<K, S>, RunFault>> for End
 
 type Handle<'s, K, S> = PromisedHandle<Result<Finished<K, S>, RunFault>, EndOf<'s, S>>;
 
-// One process on a thread of the scope.
+// Runs one process on a thread of the scope.
 fn start<
     's,
     E,
@@ -119,7 +119,7 @@ fn started_channel<
     }
 }
 
-// One process, and the thread that writes its store where that is slow. The book of its flights has a name of its own.
+// Runs one process, and the thread that writes its store where that is slow. The book of its flights has a name of its own.
 fn start_apart<
     's,
     E,
@@ -159,7 +159,7 @@ fn start_apart<
     )
 }
 
-// All processes, each on a thread of its own; None where a thread could not be made, and then all are stopped.
+// Runs all processes, each on a thread of its own; None where a thread could not be made, and then all are stopped.
 fn start_all<
     's,
     E,
@@ -215,7 +215,8 @@ fn start_all<
     Some(handles)
 }
 
-// All processes, each on a thread of its own, and all joined; and what was beside them.
+// Runs all processes, each on a thread of its own, and what is beside them, and joins all. Returns what they brought back, and what was
+// beside them.
 pub(crate) fn run_scoped<
     K: Naming + Send + Sync,
     R: Threads + Wait + Clock + Sync,

@@ -57,7 +57,7 @@ pub(crate) fn insert_receipts<S: Alter>(
     Ok(())
 }
 
-// All or none.
+// Puts receipts from interval `first` on, all or none.
 pub(crate) fn put_receipts<S: Alter>(
     conn: &mut Connection<S>,
     first: u32,
@@ -74,7 +74,7 @@ pub(crate) fn put_receipts<S: Alter>(
     commit(tx)
 }
 
-// All or none.
+// Puts the checkpoint of interval `x`, or nothing.
 pub(crate) fn put_checkpoint<S: Alter>(
     conn: &mut Connection<S>,
     x: u32,

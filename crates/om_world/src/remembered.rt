@@ -23,28 +23,28 @@ impl Model for Remembered {
 }
 
 impl Remembered {
-    // No entries.
+    // Remembers no entries.
     pub(crate) fn none() -> Remembered
         ensures { result.entries ≡ [] }
     {
         Remembered {}
     }
 
-    // The same entries.
+    // Remembers the same entries.
     pub(crate) fn copy(_before: &Remembered) -> Remembered
         ensures { result.entries ≡ _before.now.entries }
     {
         Remembered {}
     }
 
-    // The entries, and behind them that of a message.
+    // Remembers the entries, and behind them that of a message.
     pub(crate) fn longer(_before: &Remembered, _message: &Message) -> Remembered
         ensures { result.entries ≡ _before.now.entries ++ entry_of _message.now ∷ [] }
     {
         Remembered {}
     }
 
-    // Of each process its first entries, as many as the state says.
+    // Remembers of each process its first entries, as many as the state says.
     pub(crate) fn cut(_before: &Remembered, _state: &DepVec) -> Remembered
         ensures { result.entries ≡ cut_list (λ p. slice_index _state.now p) _before.now.entries }
     {

@@ -130,7 +130,7 @@ impl<S: Stable> World<S> {
         Ok(())
     }
 
-    // The manager that a restart starts with: it recovers no less than this one.
+    // Makes the manager that a restart starts with: it recovers no less than this one.
     fn manager_anew(&mut self, alloc: Global) -> Result<Manager, Refusal>
         ensures made { IfOk result (λ manager. IsAnew self.new manager) }
         ensures read { HasRead self.old self.new }
