@@ -79,10 +79,10 @@ impl Sight {
     pub fn has_ended(&self) -> bool
         ensures ended { IsTrue result ↔ HasEnded self.now.doing }
     {
-        matches!(
-            self.doing,
-            Doing::Up(Status::Ended(_)) | Doing::Up(Status::Trapped(_))
-        )
+        match self.doing {
+            Doing::Up(status) => status.has_ended(),
+            _ => false,
+        }
     }
 }
 

@@ -48,19 +48,19 @@ pub fn rows_are_true()
 pub fn taken_up()
     ensures legal { (programs : List Program) (live : List Entry) (held : ℕ → Content) (rows : Rows) (state : List ℕ)
         → Legal programs live → AreTrue programs live held → HasRowsOf (length programs) held rows
-        → IsRecoverable (length programs) rows state → Legal programs (cut_list (slice_index state) live) }
+        → IsRecoverable (length programs) rows state → Legal programs (cut_list state live) }
     ensures kept { (programs : List Program) (live : List Entry) (held : ℕ → Content) (state : List ℕ)
         → AreTrue programs live held
-        → AreTrue programs (cut_list (slice_index state) live) (λ p. kept_by_cut (held p) (slice_index state p)) }
+        → AreTrue programs (cut_list state live) (λ p. kept_by_cut (held p) (slice_index state p)) }
     ensures stands { (programs : List Program) (live : List Entry) (held : ℕ → Content) (state : List ℕ) (p : ℕ) (core : CoreState)
         → AreTrue programs live held → p < length programs → core.own ≡ p → cluster_size core.now ≡ length programs
         → IsReplay (held p) (slice_index state p) core
-        → CheckpointOf (program_at programs p) p (length programs) core.now (received p (cut_list (slice_index state) live)) }
+        → CheckpointOf (program_at programs p) p (length programs) core.now (received p (cut_list state live)) }
     ensures said { (programs : List Program) (live : List Entry) (state : List ℕ) (p number : ℕ) (output : QueueEntry)
         → AtInterval (received p live) output.interval
         (Makes (program_at programs p) p (length programs) (length programs) number output)
         → output.interval ≤ slice_index state p
-        → AtInterval (received p (cut_list (slice_index state) live)) output.interval
+        → AtInterval (received p (cut_list state live)) output.interval
         (Makes (program_at programs p) p (length programs) (length programs) number output) }
 {}
 

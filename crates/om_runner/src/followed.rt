@@ -9,6 +9,7 @@ ghost use Rattle.om_report.specs.declared.follower.FollowFault.TheVariants.{Unwa
 ghost use Rattle.om_node.specs.Nodes.{AreAlwaysClean};
 ghost use Rattle.om_report.specs.Reports.{IsReport};
 ghost use Rattle.om_runner.specs.steps.Ends.{AreParts};
+ghost use Rattle.om_runner.specs.steps.Starting.{IsNamedFor};
 
 use crate::cluster::{run_workers, settled};
 use crate::main_task::MainTask;
@@ -46,9 +47,7 @@ fn close<K: Naming, R: Wait, G, O: Opener<R>, F: Follower>(
     parts: Result<Parts<K, O::Store>, RunFault>,
     following: Following<'_, K, F>,
 ) -> (Result<Report, FollowFault>, F)
-    requires images { length cluster.now.plan.now.images.items ≡ K.cell.n }
-    requires programs { K.programs ≡ map program_of cluster.now.plan.now.images.items }
-    requires clean { K.OverClean → AreAlwaysClean O.Store.is_clean }
+    requires named { IsNamedFor O.Store.is_clean K.OverClean K.programs K.cell.n cluster.now.plan.now.images.items }
     requires parts { IfOk parts (AreParts O.Store.is_clean cluster.now.plan.now.images.items cluster.now.inboxes.now) }
     ensures report { IfOk result.0 (IsReport K.OverClean K.programs) }
     ensures told { (start : F) → IsFollowed F.Tells start following.entry.lanes.items following.entry.fault following.entry.follower

@@ -18,7 +18,7 @@ mod storing;
 use crate::links::{Links, Taken};
 use om_board::{Naming, Pass, Shared};
 use om_interval::Pid;
-use om_node::{Due, Kept, Node, WorkerFault, has_ended};
+use om_node::{Due, Kept, Node, WorkerFault};
 use om_observers::{Diary, Observers, Past, Sight, Watch};
 use om_process::{Accept, PendingRow, Status, Witness};
 use om_report::Harvest;
@@ -404,7 +404,7 @@ impl<'a, K: Naming> Worker<'a, K> {
         let standing = self.report(rt, alloc, node, status, called)?;
         match standing {
             ManagerPhase::Closed => {
-                if !has_ended(status) {
+                if !status.has_ended() {
                     self.launch(rt, alloc, node)?;
                 }
                 self.receive(rt, alloc, node, status)
@@ -444,7 +444,7 @@ impl<'a, K: Naming> Worker<'a, K> {
         if ran.steps > 0 || self.links.is_behind() {
             self.links.put_all(rt, alloc, node.core())?;
         }
-        if has_ended(ran.status) {
+        if ran.status.has_ended() {
             self.recall(rt, node)?;
             node.flush(alloc)?;
             self.diary.stored_all();
@@ -474,7 +474,7 @@ impl<'a, K: Naming> Worker<'a, K> {
             → outputs_from node.old.core link.handed ≡ []
             → IfOk result (λ standing. HasNothingToSay link.handed status node.old.core standing node.new.core) }
     {
-        let ended = has_ended(status);
+        let ended = status.has_ended();
         if !self.manager_link.is_due(node.core(), ended, called) {
             return Ok(ManagerPhase::Closed);
         }

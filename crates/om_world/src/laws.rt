@@ -19,15 +19,15 @@ pub fn one_more()
 /// Proves that a cut leaves each process its first receipts; where it is closed, what is left of a legal list
 /// is legal.
 pub fn cut()
-    ensures first { (s : ℕ → ℕ) (es : List Entry) (p : ℕ) → received p (cut_list s es) ≡ take (s p) (received p es) }
-    ensures legal { (programs : List Program) (s : ℕ → ℕ) (es : List Entry)
+    ensures first { (s : List ℕ) (es : List Entry) (p : ℕ) → received p (cut_list s es) ≡ take (slice_index s p) (received p es) }
+    ensures legal { (programs : List Program) (s : List ℕ) (es : List Entry)
         → Legal programs es → Closed s es → Legal programs (cut_list s es) }
 {}
 
 /// Proves that a state that the dependencies of the receipts within it do not pass is closed.
 pub fn closed()
-    ensures { (programs : List Program) (s : ℕ → ℕ) (es : List Entry) → Legal programs es
-        → ((p q : ℕ) → q ≢ p → greatest_from q (take (s p) (received p es)) ≤ s q) → Closed s es }
+    ensures { (programs : List Program) (s : List ℕ) (es : List Entry) → Legal programs es
+        → ((p q : ℕ) → q ≢ p → greatest_from q (take (slice_index s p) (received p es)) ≤ slice_index s q) → Closed s es }
 {}
 
 /// Proves that outputs that are each made at their interval are the first outputs of one state.

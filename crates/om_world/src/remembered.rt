@@ -1,6 +1,6 @@
 //! Entries that clauses alone know.
 
-ghost use Rattle.std.specs.Prelude.{◌≡◌, ◌++◌, ◌∷◌, List, [], slice_index};
+ghost use Rattle.std.specs.Prelude.{◌≡◌, ◌++◌, ◌∷◌, List, []};
 ghost use Rattle.std.specs.Borrow.{ftrue};
 ghost use Rattle.std.specs.Coded.{coded_list};
 ghost use Rattle.om_world.specs.Live.{cut_list};
@@ -46,7 +46,7 @@ impl Remembered {
 
     // Remembers of each process its first entries, as many as the state says.
     pub(crate) fn cut(_before: &Remembered, _state: &DepVec) -> Remembered
-        ensures { result.entries ≡ cut_list (λ p. slice_index _state.now p) _before.now.entries }
+        ensures { result.entries ≡ cut_list _state.now _before.now.entries }
     {
         Remembered {}
     }

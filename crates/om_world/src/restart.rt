@@ -48,7 +48,7 @@ pub(crate) fn put_down<S: Stable>(members: &mut Vec<Member<S>>)
 
 // Leaves of what was received what a restart recovers: of what was received last, or before the last finished round.
 fn begin_live(live: &mut Remembered, since: &mut Since, state: &DepVec, current: bool)
-    ensures live { live.new.entries ≡ cut_list (λ p. slice_index state.now p) (cond current live.old.entries since.old.before) }
+    ensures live { live.new.entries ≡ cut_list state.now (cond current live.old.entries since.old.before) }
     ensures since { since.new ≡ record { before = cond current live.old.entries since.old.before; stored = false } }
 {
     since.restart(live, current);
