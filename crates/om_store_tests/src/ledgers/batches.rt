@@ -53,6 +53,17 @@ const NOTHING: Batch = Batch {
     prune_to: None,
 };
 
+// Once the whole one is written: nine receipts, and five of which the third is there.
+const NINE: Batch = Batch {
+    receipts: (7, 9),
+    ..NOTHING
+};
+
+const THIRD_IS_TAKEN: Batch = Batch {
+    receipts: (1, 5),
+    ..NOTHING
+};
+
 fn write<S: Ledger>(
     rt: &impl Abort,
     alloc: Global,
@@ -122,8 +133,19 @@ fn play<S: Ledger>(rt: &impl Abort, alloc: Global, store: &mut S) {
     check_tables(rt, alloc, store, &[0, 1, 2, 3], &[0, 1]);
     assert_eq!(rt; write(rt, alloc, store, NOTHING), Ok(()));
     check(rt, alloc, store, &[3, 4, 5, 6], &[2, 6]);
+    let refused = write(rt, alloc, store, THIRD_IS_TAKEN);
+    assert_eq!(rt; refused, Err(StoreError::Present));
+    check(rt, alloc, store, &[3, 4, 5, 6], &[2, 6]);
+    assert_eq!(rt; write(rt, alloc, store, NINE), Ok(()));
+    check(
+        rt,
+        alloc,
+        store,
+        &[3, 4, 5, 6, 7, 8, 9, 10, 11, 12, 13, 14, 15],
+        &[2, 6],
+    );
     assert_eq!(rt; write(rt, alloc, store, PRUNED), Ok(()));
-    check(rt, alloc, store, &[], &[9]);
+    check(rt, alloc, store, &[10, 11, 12, 13, 14, 15], &[9]);
     check_tables(rt, alloc, store, &[0, 1, 2, 3], &[0, 1]);
 }
 
