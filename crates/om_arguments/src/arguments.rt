@@ -73,7 +73,7 @@ pub enum Request<'a> {
 pub struct Running<'a> {
     /// The most turns of each worker.
     pub turns: u64,
-    /// Of the files of its stores; without one they are in memory.
+    /// The prefix of the files of its stores; without one they are in memory.
     pub prefix: Option<&'a str>,
     /// Whether the run goes on from its stores where there are any.
     pub resumes: bool,
@@ -130,13 +130,39 @@ pub struct Asked<'a> {
 /// mistake, a help text or the version that was asked for, or out of memory.
 pub fn parse<'a, S: AsStr>(alloc: Global, words: &'a [S]) -> Result<Asked<'a>, Error> {
     let mut command = command(alloc)?;
+    let asked = parse_by(alloc, &mut command, words);
+    drop(command);
+    asked
+}
+
+// Returns the same by this command.
+fn parse_by<'a, S: AsStr>(
+    alloc: Global,
+    command: &mut Command<'a>,
+    words: &'a [S],
+) -> Result<Asked<'a>, Error> {
     let matches = command.try_get_matches_from_mut(words)?;
-    let Some((name, found)) = matches.subcommand() else {
-        return Err(no_subcommand(&mut command));
-    };
-    let Some(subcommand) = subcommand_of(name) else {
-        return Err(no_subcommand(&mut command));
-    };
+    let asked = asked_of(alloc, &matches);
+    drop(matches);
+    match asked {
+        Some(asked) => asked,
+        None => Err(no_subcommand(command)),
+    }
+}
+
+// Returns what is asked for, where a subcommand is.
+fn asked_of<'a>(alloc: Global, matches: &ArgMatches<'a>) -> Option<Result<Asked<'a>, Error>> {
+    let (name, found) = matches.subcommand()?;
+    let subcommand = subcommand_of(name)?;
+    Some(asked_in(alloc, subcommand, found))
+}
+
+// Returns what is asked for by the words of a subcommand.
+fn asked_in<'a>(
+    alloc: Global,
+    subcommand: Subcommand,
+    found: &ArgMatches<'a>,
+) -> Result<Asked<'a>, Error> {
     match request_of(subcommand, found) {
         Ok(request) => Ok(Asked {
             request,
@@ -155,7 +181,7 @@ fn no_subcommand(command: &mut Command<'_>) -> Error {
     }
 }
 
-// The error of a mistake in the arguments of a subcommand, or of memory that ran out for it.
+// Makes the error of a mistake in the arguments of a subcommand, or of memory that ran out for it.
 fn refusal_of(alloc: Global, subcommand: Subcommand, mistake: Mistake<'_>) -> Error {
     match told(alloc, subcommand, mistake) {
         Ok(error) => error,
@@ -163,7 +189,7 @@ fn refusal_of(alloc: Global, subcommand: Subcommand, mistake: Mistake<'_>) -> Er
     }
 }
 
-// The text of a mistake, with the usage of its subcommand.
+// Makes the text of a mistake, with the usage of its subcommand.
 fn told(alloc: Global, subcommand: Subcommand, mistake: Mistake<'_>) -> Result<Error, AllocError> {
     let name = name_of(subcommand);
     let bin_name = format!(in alloc; "omlog {name}")?;
@@ -172,7 +198,7 @@ fn told(alloc: Global, subcommand: Subcommand, mistake: Mistake<'_>) -> Result<E
     command.error(ErrorKind::ValueValidation, what.as_str())
 }
 
-// The request of a subcommand, where what it is given for a number is one.
+// Makes the request of a subcommand, where what it is given for a number is one.
 fn request_of<'a>(
     subcommand: Subcommand,
     found: &ArgMatches<'a>,
@@ -193,7 +219,7 @@ fn request_of<'a>(
     }
 }
 
-// The subcommand of a name.
+// Returns the subcommand of a name.
 fn subcommand_of(name: &str) -> Option<Subcommand>
     ensures { result ≡ subcommand_named name.now }
 {
@@ -212,7 +238,7 @@ fn subcommand_of(name: &str) -> Option<Subcommand>
     }
 }
 
-// The name of a subcommand.
+// Returns the name of a subcommand.
 fn name_of(subcommand: Subcommand) -> &'static str
     ensures { subcommand_named result.now ≡ Some subcommand }
 {
@@ -230,7 +256,7 @@ fn name_of(subcommand: Subcommand) -> &'static str
     }
 }
 
-// The request for the line of an image.
+// Makes the request for the line of an image.
 fn image_request<'a>(found: &ArgMatches<'a>) -> Result<Request<'a>, Mistake<'a>>
     ensures { IfOk result (λ request. asked_by request ≡ Subcommand.Image) }
 {
@@ -241,7 +267,7 @@ fn image_request<'a>(found: &ArgMatches<'a>) -> Result<Request<'a>, Mistake<'a>>
     })
 }
 
-// The instructions that a program may use, by the flag `--m`.
+// Returns the instructions that a program may use, by the flag `--m`.
 fn ext_of(with_m: bool) -> Ext
     ensures { result ≡ ext_of with_m }
 {
@@ -276,7 +302,7 @@ fn checking_of<'a>(found: &ArgMatches<'a>) -> Result<Checking<'a>, Mistake<'a>> 
     }
 }
 
-// The name of a file that is to be written beside the text, which standard output cannot take too.
+// Returns the name of a file that is to be written beside the text, which standard output cannot take too.
 fn file_for<'a>(argument: &'a str, path: &'a str) -> Result<&'a str, Mistake<'a>>
     ensures file { IfOk result (λ file. file ≡ path.entry) }
     ensures refused { IsErr result ↔ (path.now ≡ codes "-") }
@@ -296,7 +322,7 @@ fn raw_of<'a>(name: &'a str, follows: bool) -> Checking<'a> {
     }
 }
 
-// The kills that are to be drawn, if any are, where their numbers are numbers.
+// Reads the kills that are to be drawn, if any are, where their numbers are numbers.
 fn kills_of<'a>(found: &ArgMatches<'a>) -> Result<Option<Kills>, Mistake<'a>> {
     let Some(count) = found.get_str(KILLS) else {
         return Ok(None);
@@ -309,7 +335,7 @@ fn kills_of<'a>(found: &ArgMatches<'a>) -> Result<Option<Kills>, Mistake<'a>> {
     Ok(Some(Kills { count, seed }))
 }
 
-// The request to run a cluster, where its turns and what else is a number are numbers.
+// Makes the request to run a cluster, where its turns and what else is a number are numbers.
 fn run_request<'a>(found: &ArgMatches<'a>) -> Result<Request<'a>, Mistake<'a>>
     ensures { IfOk result (λ request. asked_by request ≡ Subcommand.Run) }
 {

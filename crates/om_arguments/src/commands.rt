@@ -1,6 +1,7 @@
 //! The subcommands as a command line has them: their names, helps and options.
 
 use crate::arguments::Subcommand;
+use crate::building::{with_arg, with_command};
 use crate::debug_request::debug_command;
 use crate::draw_request::draw_command;
 use crate::explore_request::explore_command;
@@ -348,43 +349,60 @@ pub(crate) fn command<'a>(alloc: Global) -> Result<Command<'a>, AllocError> {
     with_clusters(alloc, with_scripts(alloc, command)?)
 }
 
-// With the subcommands that read words, records or events.
+// Adds the subcommands that read words, records or events.
 fn with_scripts<'a>(alloc: Global, command: Command<'a>) -> Result<Command<'a>, AllocError> {
-    command
-        .subcommand(command_of(alloc, Subcommand::Decode)?)?
-        .subcommand(command_of(alloc, Subcommand::Image)?)?
-        .subcommand(command_of(alloc, Subcommand::Frontier)?)?
-        .subcommand(command_of(alloc, Subcommand::Sim)?)?
-        .subcommand(command_of(alloc, Subcommand::Draw)?)
+    let command = with_command(command, command_of(alloc, Subcommand::Decode))?;
+    let command = with_command(command, command_of(alloc, Subcommand::Image))?;
+    let command = with_command(command, command_of(alloc, Subcommand::Frontier))?;
+    let command = with_command(command, command_of(alloc, Subcommand::Sim))?;
+    with_command(command, command_of(alloc, Subcommand::Draw))
 }
 
-// With those that run clusters, and look into what they stored.
+// Adds the subcommands that run clusters, and look into what they stored.
 fn with_clusters<'a>(alloc: Global, command: Command<'a>) -> Result<Command<'a>, AllocError> {
-    command
-        .subcommand(command_of(alloc, Subcommand::Run)?)?
-        .subcommand(command_of(alloc, Subcommand::Explore)?)?
-        .subcommand(command_of(alloc, Subcommand::Debug)?)?
-        .subcommand(command_of(alloc, Subcommand::Replay)?)?
-        .subcommand(command_of(alloc, Subcommand::Show)?)
+    let command = with_command(command, command_of(alloc, Subcommand::Run))?;
+    let command = with_command(command, command_of(alloc, Subcommand::Explore))?;
+    let command = with_command(command, command_of(alloc, Subcommand::Debug))?;
+    let command = with_command(command, command_of(alloc, Subcommand::Replay))?;
+    with_command(command, command_of(alloc, Subcommand::Show))
 }
 
 pub(crate) fn command_of<'a>(
     alloc: Global,
     subcommand: Subcommand,
 ) -> Result<Command<'a>, AllocError> {
-    let command = match subcommand {
-        Subcommand::Decode => decode_command(alloc)?.arg(input_file(alloc))?,
-        Subcommand::Frontier => frontier_command(alloc).arg(input_file(alloc))?,
-        Subcommand::Sim => sim_command(alloc)?.arg(input_file(alloc))?,
-        Subcommand::Draw => draw_command(alloc)?.arg(input_file(alloc))?,
-        Subcommand::Run => run_command(alloc)?.arg(input_file(alloc))?,
-        Subcommand::Explore => explore_command(alloc)?.arg(input_file(alloc))?,
-        Subcommand::Debug => debug_command(alloc)?,
-        Subcommand::Replay => replay_command(alloc)?,
-        Subcommand::Show => show_command(alloc)?,
-        Subcommand::Image => image_command(alloc)?,
-    };
+    let command = with_input(alloc, subcommand, own_command(alloc, subcommand)?)?;
     command.arg(verbose_option(alloc))
+}
+
+// The command of a subcommand, without what it has in common with others.
+fn own_command<'a>(alloc: Global, subcommand: Subcommand) -> Result<Command<'a>, AllocError> {
+    match subcommand {
+        Subcommand::Decode => decode_command(alloc),
+        Subcommand::Frontier => Ok(frontier_command(alloc)),
+        Subcommand::Sim => sim_command(alloc),
+        Subcommand::Draw => draw_command(alloc),
+        Subcommand::Run => run_command(alloc),
+        Subcommand::Explore => explore_command(alloc),
+        Subcommand::Debug => debug_command(alloc),
+        Subcommand::Replay => replay_command(alloc),
+        Subcommand::Show => show_command(alloc),
+        Subcommand::Image => image_command(alloc),
+    }
+}
+
+// With the file that is read, where a subcommand reads a text.
+fn with_input<'a>(
+    alloc: Global,
+    subcommand: Subcommand,
+    command: Command<'a>,
+) -> Result<Command<'a>, AllocError> {
+    match subcommand {
+        Subcommand::Debug | Subcommand::Replay | Subcommand::Show | Subcommand::Image => Ok(
+            command,
+        ),
+        _ => command.arg(input_file(alloc)),
+    }
 }
 
 fn input_file<'a>(alloc: Global) -> Arg<'a> {
@@ -405,22 +423,31 @@ fn decode_command<'a>(alloc: Global) -> Result<Command<'a>, AllocError> {
 }
 
 fn image_command<'a>(alloc: Global) -> Result<Command<'a>, AllocError> {
-    let with_m = Arg::new(alloc, M)
-        .long(M)
-        .help("The program may use RV32M")
-        .action(ArgAction::SetTrue);
-    let name = Arg::new(alloc, NAME)
-        .help("The name of the program")
-        .required(true);
-    let size = Arg::new(alloc, SIZE)
-        .help("The bytes of its memory, 4 to 65536")
-        .required(true);
     Command::new(alloc, IMAGE)
         .about("The program line of a raw image")
         .after_long_help(IMAGE_HELP)
-        .arg(with_m)?
-        .arg(name)?
-        .arg(size)
+        .arg(m_option(alloc))?
+        .arg(name_argument(alloc))?
+        .arg(size_argument(alloc))
+}
+
+fn m_option<'a>(alloc: Global) -> Arg<'a> {
+    Arg::new(alloc, M)
+        .long(M)
+        .help("The program may use RV32M")
+        .action(ArgAction::SetTrue)
+}
+
+fn name_argument<'a>(alloc: Global) -> Arg<'a> {
+    Arg::new(alloc, NAME)
+        .help("The name of the program")
+        .required(true)
+}
+
+fn size_argument<'a>(alloc: Global) -> Arg<'a> {
+    Arg::new(alloc, SIZE)
+        .help("The bytes of its memory, 4 to 65536")
+        .required(true)
 }
 
 fn frontier_command<'a>(alloc: Global) -> Command<'a> {
@@ -441,35 +468,32 @@ fn run_command<'a>(alloc: Global) -> Result<Command<'a>, AllocError> {
         .about("Logged processes that run in threads, fail and recover")
         .after_long_help(RUN_HELP)
         .arg(turns_option(alloc))?
-        .arg(store_option(alloc))?
-        .arg(resume_option(alloc)?)?;
+        .arg(store_option(alloc))?;
+    let command = with_arg(command, resume_option(alloc))?;
     let command = with_tellings(alloc, with_checks(alloc, command)?)?;
     with_forms(alloc, with_kills(alloc, command)?)
 }
 
-// With the options that say which processes are to fail.
+// Adds the options that say which processes are to fail.
 fn with_kills<'a>(alloc: Global, command: Command<'a>) -> Result<Command<'a>, AllocError> {
-    command.arg(kills_option(alloc))?.arg(seed_option(alloc)?)
+    with_arg(command.arg(kills_option(alloc))?, seed_option(alloc))
 }
 
-// With the options that say how outputs are written, and what is a failure.
+// Adds the options that say how outputs are written, and what is a failure.
 fn with_forms<'a>(alloc: Global, command: Command<'a>) -> Result<Command<'a>, AllocError> {
-    command
-        .arg(text_option(alloc))?
-        .arg(raw_option(alloc)?)?
-        .arg(strict_option(alloc))
+    let command = with_arg(command.arg(text_option(alloc))?, raw_option(alloc))?;
+    command.arg(strict_option(alloc))
 }
 
-// With the options that check a run.
+// Adds the options that check a run.
 fn with_checks<'a>(alloc: Global, command: Command<'a>) -> Result<Command<'a>, AllocError> {
     command.arg(check_option(alloc))?.arg(witness_option(alloc))
 }
 
-// With the options that say what happened in a run.
+// Adds the options that say what happened in a run.
 fn with_tellings<'a>(alloc: Global, command: Command<'a>) -> Result<Command<'a>, AllocError> {
-    command
-        .arg(record_option(alloc)?)?
-        .arg(follow_option(alloc)?)
+    let command = with_arg(command, record_option(alloc))?;
+    with_arg(command, follow_option(alloc))
 }
 
 fn turns_option<'a>(alloc: Global) -> Arg<'a> {

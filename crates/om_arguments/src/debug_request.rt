@@ -6,6 +6,7 @@ ghost use Rattle.om_arguments.specs.steps.Requests.{asked_by};
 ghost use Rattle.om_arguments.specs.declared.arguments.Subcommand.{Subcommand};
 
 use crate::arguments::{Request, STANDARD_STREAM};
+use crate::building::with_arg;
 use crate::commands::INPUT;
 use crate::mistake::{Mistake, needed, number_for};
 use clap::{Arg, ArgAction, ArgMatches, Command};
@@ -99,7 +100,7 @@ pub struct SymbolFile<'a> {
     pub file: &'a str,
 }
 
-// The request to show a process of a record, or all, or the process of a store.
+// Makes the request to show a process of a record, or all, or the process of a store.
 pub(crate) fn debug_request<'a>(found: &ArgMatches<'a>) -> Result<Request<'a>, Mistake<'a>>
     ensures { IfOk result (λ request. asked_by request ≡ Subcommand.Debug) }
 {
@@ -109,7 +110,7 @@ pub(crate) fn debug_request<'a>(found: &ArgMatches<'a>) -> Result<Request<'a>, M
     record_request(found)
 }
 
-// The request to show the process of a store, at an interval that is a number, where one is given.
+// Makes the request to show the process of a store, at an interval that is a number, where one is given.
 fn store_request<'a>(words: &[&'a str]) -> Result<Request<'a>, Mistake<'a>>
     ensures { IfOk result (λ request. asked_by request ≡ Subcommand.Debug) }
 {
@@ -123,7 +124,7 @@ fn store_request<'a>(words: &[&'a str]) -> Result<Request<'a>, Mistake<'a>>
     Ok(Request::DebugStore { file, interval })
 }
 
-// The request to show a process of a record, or all.
+// Makes the request to show a process of a record, or all.
 fn record_request<'a>(found: &ArgMatches<'a>) -> Result<Request<'a>, Mistake<'a>>
     ensures { IfOk result (λ request. asked_by request ≡ Subcommand.Debug) }
 {
@@ -144,7 +145,7 @@ fn refuse_stream<'a>(path: &str) -> Result<(), Mistake<'a>>
     Ok(())
 }
 
-// The program and the file of a word PROGRAM=FILE, of which neither is empty.
+// Returns the program and the file of a word PROGRAM=FILE, of which neither is empty.
 fn symbols_in<'a>(word: &'a str) -> Option<SymbolFile<'a>>
     ensures program { IfSome result (λ s. s.program.now ≡ before_first (λ byte. byte == 61) word.now) }
     ensures file { IfSome result (λ s. s.file.now ≡ after_first (λ byte. byte == 61) word.now) }
@@ -190,18 +191,21 @@ pub(crate) fn symbols_of<'a>(
 }
 
 pub(crate) fn debug_command<'a>(alloc: Global) -> Result<Command<'a>, AllocError> {
-    let record = Arg::new(alloc, INPUT)
-        .value_name("RECORD")
-        .help("The record, a script of sim")
-        .required(true);
-    Command::new(alloc, DEBUG)
+    let command = Command::new(alloc, DEBUG)
         .about("A process of a record under gdb, forward and back")
         .override_usage(USAGE)
         .after_long_help(DEBUG_HELP)
-        .arg(process_option(alloc))?
-        .arg(elf_option(alloc)?)?
-        .arg(store_option(alloc)?)?
-        .arg(record)
+        .arg(process_option(alloc))?;
+    let command = with_arg(command, elf_option(alloc))?;
+    let command = with_arg(command, store_option(alloc))?;
+    command.arg(record_argument(alloc))
+}
+
+fn record_argument<'a>(alloc: Global) -> Arg<'a> {
+    Arg::new(alloc, INPUT)
+        .value_name("RECORD")
+        .help("The record, a script of sim")
+        .required(true)
 }
 
 fn process_option<'a>(alloc: Global) -> Arg<'a> {

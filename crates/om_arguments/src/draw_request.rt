@@ -35,7 +35,7 @@ pub struct Lines {
     pub to: usize,
 }
 
-// The window between two lines, where they are numbers.
+// Reads the window between two lines, where they are numbers.
 pub(crate) fn lines_of<'a>(found: &ArgMatches<'a>) -> Result<Lines, Mistake<'a>> {
     Ok(Lines {
         from: line_of("--from <LINE>", found.get_str(FROM), 0)?,
@@ -43,7 +43,7 @@ pub(crate) fn lines_of<'a>(found: &ArgMatches<'a>) -> Result<Lines, Mistake<'a>>
     })
 }
 
-// The number of a line, and what stands for it where it is not given.
+// Returns the number of a line, or what stands for it where it is not given.
 fn line_of<'a>(
     argument: &'a str,
     word: Option<&'a str>,

@@ -1,6 +1,7 @@
 //! The subcommand `explore`: which runs it plays, and how it is asked for.
 
 use crate::arguments::{OutputForm, form_of};
+use crate::building::with_arg;
 use crate::mistake::{Mistake, long_number_for};
 use clap::{Arg, ArgAction, ArgMatches, Command};
 use std::alloc::{AllocError, Global};
@@ -84,7 +85,7 @@ pub struct Exploring<'a> {
     pub all: bool,
     /// The most turns of each process.
     pub turns: u64,
-    /// Of the files of the runs that each different text came of first.
+    /// The prefix of the files of the runs that each different text came of first.
     pub witnesses: Option<&'a str>,
     /// How the bytes of outputs are written in which texts differ.
     pub form: OutputForm,
@@ -104,7 +105,7 @@ pub(crate) fn exploring_of<'a>(found: &ArgMatches<'a>) -> Result<Exploring<'a>, 
     })
 }
 
-// The number of an argument, and what stands for it where it is not given.
+// Returns the number of an argument, or what stands for it where it is not given.
 fn number_or<'a>(
     argument: &'a str,
     word: Option<&'a str>,
@@ -120,10 +121,9 @@ pub(crate) fn explore_command<'a>(alloc: Global) -> Result<Command<'a>, AllocErr
     let command = Command::new(alloc, EXPLORE)
         .about("What a cluster may write, by the orders in which its messages come")
         .after_long_help(EXPLORE_HELP)
-        .arg(runs_option(alloc))?
-        .arg(seed_option(alloc)?)?
-        .arg(all_option(alloc))?;
-    command
+        .arg(runs_option(alloc))?;
+    with_arg(command, seed_option(alloc))?
+        .arg(all_option(alloc))?
         .arg(witnesses_option(alloc))?
         .arg(turns_option(alloc))?
         .arg(text_option(alloc))

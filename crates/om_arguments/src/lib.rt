@@ -1,11 +1,12 @@
 //! The command line: what its words ask for, and how a command ends.
 //!
-//! - `commands`: the subcommands, their helps and options; `arguments`: their requests; both with `debug_request`, `draw_request`,
+//! - `commands`: the subcommands, their helps and options (`building` puts them together); `arguments`: their requests; both with `debug_request`, `draw_request`,
 //!   `explore_request` and `look_requests`; `mistake` (what is wrong with a value)
 //! - `ending`: the status, and the line on standard error
 #![tactic(auto)]
 
 mod arguments;
+mod building;
 mod commands;
 mod debug_request;
 mod draw_request;

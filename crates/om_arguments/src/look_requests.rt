@@ -5,6 +5,7 @@ ghost use Rattle.om_arguments.specs.steps.Requests.{looked_by};
 ghost use Rattle.om_arguments.specs.declared.arguments.Subcommand.{Subcommand};
 
 use crate::arguments::{OutputForm, form_of};
+use crate::building::with_arg;
 use crate::mistake::{Mistake, long_number_for, needed, number_for};
 use clap::{Arg, ArgAction, ArgMatches, Command};
 use std::alloc::{AllocError, Global};
@@ -144,7 +145,7 @@ pub enum Look<'a> {
     },
 }
 
-// The request to show what a file holds.
+// Makes the request to show what a file holds.
 pub(crate) fn show_request<'a>(found: &ArgMatches<'a>) -> Result<Look<'a>, Mistake<'a>>
     ensures { IfOk result (λ look. looked_by look ≡ Subcommand.Show) }
 {
@@ -154,7 +155,7 @@ pub(crate) fn show_request<'a>(found: &ArgMatches<'a>) -> Result<Look<'a>, Mista
     })
 }
 
-// In which form the bodies of messages are asked for.
+// Returns in which form the bodies of messages are asked for.
 fn bodies_of<'a>(found: &ArgMatches<'a>) -> Option<OutputForm> {
     if found.get_flag(BODIES) {
         return Some(form_of(found.get_flag(TEXT)));
@@ -162,7 +163,7 @@ fn bodies_of<'a>(found: &ArgMatches<'a>) -> Option<OutputForm> {
     None
 }
 
-// The request to replay from a file to an interval, and so many steps on, where these are numbers.
+// Makes the request to replay from a file to an interval, and so many steps on, where these are numbers.
 pub(crate) fn replay_request<'a>(found: &ArgMatches<'a>) -> Result<Look<'a>, Mistake<'a>>
     ensures { IfOk result (λ look. looked_by look ≡ Subcommand.Replay) }
 {
@@ -186,23 +187,23 @@ pub(crate) fn replay_request<'a>(found: &ArgMatches<'a>) -> Result<Look<'a>, Mis
 }
 
 pub(crate) fn show_command<'a>(alloc: Global) -> Result<Command<'a>, AllocError> {
-    Command::new(alloc, SHOW)
+    let command = Command::new(alloc, SHOW)
         .about("What the store of a process holds, and to where it can be replayed")
         .after_long_help(SHOW_HELP)
         .arg(store_file(alloc))?
-        .arg(bodies_option(alloc))?
-        .arg(text_option(alloc)?)
+        .arg(bodies_option(alloc))?;
+    with_arg(command, text_option(alloc))
 }
 
 pub(crate) fn replay_command<'a>(alloc: Global) -> Result<Command<'a>, AllocError> {
-    Command::new(alloc, REPLAY)
+    let command = Command::new(alloc, REPLAY)
         .about("The state of a process in an interval, from its store")
         .after_long_help(REPLAY_HELP)
         .arg(store_file(alloc))?
         .arg(interval_argument(alloc))?
-        .arg(steps_option(alloc))?
-        .arg(trace_option(alloc)?)?
-        .arg(short_option(alloc))
+        .arg(steps_option(alloc))?;
+    let command = with_arg(command, trace_option(alloc))?;
+    command.arg(short_option(alloc))
 }
 
 fn bodies_option<'a>(alloc: Global) -> Arg<'a> {

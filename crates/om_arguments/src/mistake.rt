@@ -74,12 +74,12 @@ impl<'a> fmt::Display for Mistake<'a> {
     }
 }
 
-// The value of an argument that is needed.
+// Returns the value of an argument that is needed.
 pub(crate) fn needed<'a>(found: &ArgMatches<'a>, name: &'a str) -> Result<&'a str, Mistake<'a>> {
     found.get_str(name).ok_or(Mistake::Absent(name))
 }
 
-// The number of 32 bits that the value of an argument is: digits alone.
+// Returns the number of 32 bits that the value of an argument is: digits alone.
 pub(crate) fn number_for<'a>(argument: &'a str, word: &'a str) -> Result<u32, Mistake<'a>>
     ensures number { IfOk result (λ n. number word.now ≡ Some n) }
     ensures none { IfErr result (λ _. number word.now ≡ None) }
@@ -92,7 +92,7 @@ pub(crate) fn number_for<'a>(argument: &'a str, word: &'a str) -> Result<u32, Mi
     })
 }
 
-// The number that the value of an argument is: digits alone, and at most so great.
+// Returns the number that the value of an argument is: digits alone, and at most so great.
 pub(crate) fn number_up_to<'a>(
     argument: &'a str,
     word: &'a str,
@@ -112,7 +112,7 @@ pub(crate) fn number_up_to<'a>(
     Ok(n)
 }
 
-// The number of 64 bits that the value of an argument is: digits alone.
+// Returns the number of 64 bits that the value of an argument is: digits alone.
 pub(crate) fn long_number_for<'a>(argument: &'a str, word: &'a str) -> Result<u64, Mistake<'a>>
     ensures number { IfOk result (λ n. long_number word.now ≡ Some n) }
     ensures none { IfErr result (λ _. long_number word.now ≡ None) }

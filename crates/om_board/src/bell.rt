@@ -43,7 +43,7 @@ pub struct Bell {
     senders: CachePadded<AtomicU64>,
 }
 
-// The bit of a process. There are fewer processes than bits.
+// Returns the bit of a process. There are fewer processes than bits.
 fn bit_of(place: usize) -> u64 {
     1 << (place % 64)
 }
@@ -55,7 +55,7 @@ pub struct SenderSet {
 }
 
 impl SenderSet {
-    /// Marks none.
+    /// Marks no process.
     pub fn none() -> SenderSet {
         SenderSet { bits: 0 }
     }
@@ -92,7 +92,7 @@ impl Bell {
         }
     }
 
-    /// Wakes its worker, for which a process has put something.
+    /// Wakes the bell's worker, for which a process has put something.
     pub fn tell(&self, from: usize) {
         self.senders.fetch_or(bit_of(from), SeqCst);
         self.ring();
@@ -173,7 +173,7 @@ impl Bell {
     }
 }
 
-/// Rings all.
+/// Rings all bells.
 pub fn ring_all(bells: &[Bell]) {
     for bell in bells {
         bell.ring();

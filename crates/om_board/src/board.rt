@@ -1,3 +1,5 @@
+//! The manager on its board: each call that may change its front posts it.
+
 ghost use Rattle.std.specs.Prelude.{◌≡◌, ◌≢◌, ◌≤◌, ◌<◌, ◌↔◌, ℕ, [], ◌∷◌, length, replicate, slice_set, true, None, IsTrue, OnOk, OnErr};
 ghost use mathlib.Core.List.{IsPrefix};
 ghost use Rattle.om_interval.specs.Vectors.{IsBelow};
@@ -23,8 +25,8 @@ use std::alloc::Global;
 use std::marker::Model;
 use std::sync::Wait;
 
-/// The manager with the leave to post to the frontier: each call that changes the manager posts its front in the same call.
-/// Over clean stores each output that it holds is one that its process's program makes.
+/// The manager with the leave to post to the frontier: each call that may change its front posts it. Over clean stores each output
+/// that it holds is one that its process's program makes.
 #[derive(Drop)]
 pub struct Board<K: Naming> {
     manager: Manager,
@@ -51,7 +53,7 @@ impl<K: Naming> Model for Board<K> {
 }
 
 impl<K: Naming> Board<K> {
-    // The board of a manager at its start.
+    // Makes the board of a manager at its start.
     pub(crate) fn new(manager: Manager, writer: Writer<K>) -> Board<K>
         requires places { process_count manager ≡ K.cell.n }
         requires first { front_of manager ≡ first_front K.cell.n }
@@ -72,7 +74,7 @@ impl<K: Naming> Board<K> {
         }
     }
 
-    /// The manager, for its reads.
+    /// Returns the manager, for its reads.
     pub fn manager(&self) -> &Manager
         ensures manager { result.now ≡ self.now.manager }
         ensures sound { IsBoard K.cell.n self.now }
@@ -81,7 +83,7 @@ impl<K: Naming> Board<K> {
         &self.manager
     }
 
-    /// A pass that has seen all that was posted.
+    /// Makes a pass that has seen all that was posted.
     pub fn pass(&mut self, frontier: &Frontier<K>) -> Pass<K>
         ensures all { result ≡ self.old.posted }
         ensures same { self.new ≡ self.old }
@@ -89,7 +91,8 @@ impl<K: Naming> Board<K> {
         self.writer.pass(frontier)
     }
 
-    /// [`Manager::note_logged`](om_manager::Manager::note_logged), with the front that comes of it posted.
+    /// Notes that a receipt is logged, as [`Manager::note_logged`](om_manager::Manager::note_logged) does, and posts the front that
+    /// comes of it.
     pub fn note_logged<R: Wait>(
         &mut self,
         rt: &R,
@@ -120,7 +123,8 @@ impl<K: Naming> Board<K> {
         self.note(rt, alloc, round, row, frontier)
     }
 
-    /// [`Manager::note_checkpoint`](om_manager::Manager::note_checkpoint), with the front that comes of it posted.
+    /// Notes that a state is stored, as [`Manager::note_checkpoint`](om_manager::Manager::note_checkpoint) does, and posts the front
+    /// that comes of it.
     pub fn note_checkpoint<R: Wait>(
         &mut self,
         rt: &R,
@@ -151,7 +155,7 @@ impl<K: Naming> Board<K> {
         self.note(rt, alloc, round, row, frontier)
     }
 
-    /// [`Manager::note`](om_manager::Manager::note), with the front that comes of it posted.
+    /// Notes a row, as [`Manager::note`](om_manager::Manager::note) does, and posts the front that comes of it.
     pub fn note<R: Wait>(
         &mut self,
         rt: &R,
@@ -174,8 +178,8 @@ impl<K: Naming> Board<K> {
         told
     }
 
-    /// [`Manager::note_output`](om_manager::Manager::note_output), of an output that the process's program makes. No front comes
-    /// of it.
+    /// Notes an output that the process's program makes, as [`Manager::note_output`](om_manager::Manager::note_output) does. No front
+    /// comes of it.
     pub fn note_output<R: Wait>(
         &mut self,
         _rt: &R,
@@ -200,8 +204,8 @@ impl<K: Naming> Board<K> {
         self.manager.note_output(alloc, pid, round, x, seq, bytes)
     }
 
-    /// [`Manager::fail`](om_manager::Manager::fail), with the front that comes of it posted. Nobody is quiet after it, and nobody
-    /// waits: each process owes its messages anew.
+    /// Declares a failure, as [`Manager::fail`](om_manager::Manager::fail) does, and posts the front that comes of it. Nobody is
+    /// quiet after it, and nobody waits: each process owes its messages anew.
     pub fn fail<R: Wait>(
         &mut self,
         rt: &R,
@@ -226,7 +230,7 @@ impl<K: Naming> Board<K> {
         Ok(gathered)
     }
 
-    /// [`Manager::join`](om_manager::Manager::join), with the front that comes of it posted.
+    /// Has a process join, as [`Manager::join`](om_manager::Manager::join) does, and posts the front that comes of it.
     pub fn join<R: Wait>(
         &mut self,
         rt: &R,
@@ -250,7 +254,7 @@ impl<K: Naming> Board<K> {
         Ok(gathered)
     }
 
-    /// [`Manager::prune`](om_manager::Manager::prune). No front comes of it.
+    /// Drops rows, as [`Manager::prune`](om_manager::Manager::prune) does. No front comes of it.
     pub fn prune<R: Wait>(&mut self, _rt: &R, _frontier: &Frontier<K>)
         ensures rows { IsPruned self.old.manager.rows self.old.manager.recovery self.new.manager.rows }
         ensures manager { self.new.manager ≡ record self.old.manager { rows = self.new.manager.rows } }

@@ -1,3 +1,5 @@
+//! The cell in which a front stands as words, the passes of its readers and of its writer, and its rule.
+
 ghost use Rattle.std.specs.Prelude.{◌≡◌, [], ◌∷◌, ◌++◌, true, false};
 ghost use mathlib.Core.List.{IsPrefix};
 ghost use Rattle.crossbeam_utils.specs.Register.{Forks, Merges, Turns};
@@ -167,7 +169,7 @@ pub(crate) fn write_words<R: Wait>(cell: &Cell, rt: &R, ticket: &mut Ticket, wor
     write_as(cell, rt, ticket, words);
 }
 
-// A copy of a pass that reads.
+// Copies a pass that reads.
 pub(crate) fn copy_of(cell: &Cell, ticket: &mut Ticket) -> Ticket
     requires own { ticket.old.table_id ≡ cell.now.table.shared.table_id }
     requires reads { (cell_view ticket.old).writes ≡ false }
@@ -191,7 +193,7 @@ pub(crate) fn show(cell: &Cell, ticket: &mut Ticket, other: Ticket)
     join_as(cell, ticket, other);
 }
 
-// The writer compares what it was shown with what it wrote.
+// Compares what the writer was shown with what it wrote.
 pub(crate) fn compare<R: Wait>(cell: &Cell, rt: &R, ticket: &mut Ticket)
     requires own { ticket.old.table_id ≡ cell.now.table.shared.table_id }
     requires writes { (cell_view ticket.old).writes ≡ true }
@@ -202,7 +204,7 @@ pub(crate) fn compare<R: Wait>(cell: &Cell, rt: &R, ticket: &mut Ticket)
     read_as::<Meet, R>(cell, rt, ticket);
 }
 
-// A pass that reads, from the writer's.
+// Makes a pass that reads, from the writer's.
 pub(crate) fn reader_of(cell: &Cell, ticket: &mut Ticket) -> Ticket
     requires own { ticket.old.table_id ≡ cell.now.table.shared.table_id }
     ensures own { ticket.new.table_id ≡ ticket.old.table_id }

@@ -1,3 +1,5 @@
+//! The front of a manager, and the words that spell it.
+
 ghost use Rattle.std.specs.Prelude.{◌≡◌, ◌≤◌};
 ghost use Rattle.om_interval.specs.declared.pid.TheConstants.{MAX_PROCESSES};
 ghost use Rattle.om_manager.specs.Sound.{IsManager};
@@ -17,7 +19,7 @@ pub struct Front {
 }
 
 impl Front {
-    /// The front of a manager.
+    /// Makes the front of a manager.
     pub fn of(manager: &Manager) -> Front
         ensures front { result ≡ front_of manager.now }
         ensures sound { IsManager manager.now }
@@ -45,7 +47,7 @@ impl Front {
         words
     }
 
-    // The front of n processes.
+    // Makes the front of `n` processes from the words that spell it.
     pub(crate) fn from_words(n: usize, words: &[u64; WORDS]) -> Front
         requires some { 1 ≤ n }
         requires within { n ≤ MAX_PROCESSES }

@@ -1,3 +1,5 @@
+//! The last front that was posted, as any thread reads it, and the leaves to read and to post.
+
 ghost use Rattle.std.specs.Prelude.{◌≡◌, ◌≤◌, [], ◌∷◌, length, IfOk, All};
 ghost use mathlib.Core.List.{IsPrefix};
 ghost use Rattle.om_interval.specs.declared.pid.TheConstants.{MAX_PROCESSES};
@@ -64,7 +66,7 @@ impl Model for Blank {
 }
 
 impl Blank {
-    /// A cell for the fronts of `n` processes.
+    /// Makes a cell for the fronts of `n` processes.
     pub fn new(alloc: Global, n: usize) -> Result<Blank, AllocError>
         requires some { 1 ≤ n }
         requires within { n ≤ MAX_PROCESSES }
@@ -82,7 +84,7 @@ impl Blank {
         self.n
     }
 
-    // The frontier, and the leave to post to it.
+    // Makes of the cell the frontier, and the leave to post to it.
     pub(crate) fn open<K: Naming>(self) -> (Frontier<K>, Writer<K>)
         requires { self ≡ K.cell }
         ensures { result.1 ≡ first_front K.cell.n ∷ [] }
@@ -157,8 +159,8 @@ impl<K: Naming> Model for Writer<K> {
 }
 
 impl<K: Naming> Frontier<K> {
-    /// The last front that was posted. It is not behind anything that this pass has seen. No lock is taken, but where a post
-    /// comes between, the call waits until that is done.
+    /// Returns the last front that was posted. It is not behind anything that this pass has seen. No lock is taken, but where
+    /// a post comes between, the call waits until that is done.
     pub fn read<R: Wait>(&self, rt: &R, pass: &mut Pass<K>) -> Front
         ensures later { IsPrefix pass.old pass.new }
         ensures last { EndsWith pass.new result }
@@ -171,7 +173,7 @@ impl<K: Naming> Frontier<K> {
 }
 
 impl<K: Naming> Writer<K> {
-    // A pass that has seen all that was posted.
+    // Makes a pass that has seen all that was posted.
     pub(crate) fn pass(&mut self, frontier: &Frontier<K>) -> Pass<K>
         ensures all { result ≡ self.old }
         ensures same { self.new ≡ self.old }

@@ -1,3 +1,5 @@
+//! What a pass of an inbox knows, in proofs alone.
+
 use om_format::Message;
 use std::collections::LinkedList;
 

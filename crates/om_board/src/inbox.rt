@@ -1,3 +1,5 @@
+//! Inboxes: queues of messages from one process to another, with a pass to put and one to take.
+
 ghost use Rattle.std.specs.Prelude.{◌≡◌, [], true, false, None, Some, IfOk};
 ghost use mathlib.Core.List.{IsPrefix};
 ghost use Rattle.crossbeam_channel.specs.Claims.{view as knows, IsSeatAt};
@@ -130,7 +132,7 @@ fn roles<J: Pair>(sender: &Sender, pass: &mut Ticket, from: Pid, to: Pid) -> Tic
 }
 
 impl Inbox {
-    /// An empty inbox from one process to another, with its two passes.
+    /// Makes an empty inbox from one process to another, with its two passes.
     pub fn new(alloc: Global, from: Pid, to: Pid) -> Result<(Inbox, PutPass, TakePass), AllocError>
         ensures from { IfOk result (λ made. made.0.from ≡ from) }
         ensures to { IfOk result (λ made. made.0.to ≡ to) }
@@ -190,14 +192,14 @@ impl Inbox {
         self.sender.learn_as::<Total>(&mut pass.ticket);
     }
 
-    /// The process whose messages these are.
+    /// Returns the process whose messages these are.
     pub fn from(&self) -> Pid
         ensures { result ≡ self.now.from }
     {
         self.from
     }
 
-    /// The process to which they go.
+    /// Returns the process to which they go.
     pub fn to(&self) -> Pid
         ensures { result ≡ self.now.to }
     {

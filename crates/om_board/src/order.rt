@@ -1,3 +1,5 @@
+//! The rule of an inbox's channel, and its steps.
+
 use crate::hand::Hand;
 use atomic_table::{Join, Split};
 use crossbeam_channel::protocol::{Lesson, Outcome, Protocol};

@@ -1,3 +1,5 @@
+//! What the threads of a cluster share.
+
 ghost use Rattle.std.specs.Prelude.{◌≡◌, [], ◌∷◌, replicate, IfOk};
 ghost use Rattle.om_board.specs.Fronts.{first_front};
 
@@ -18,7 +20,7 @@ pub struct Shared<K: Naming> {
     pub failures: AtomicU64,
 }
 
-// As many reading passes, each with all that was posted.
+// Makes `n` reading passes, each with all that was posted.
 fn passes_of<K: Naming>(
     alloc: Global,
     n: usize,
@@ -36,7 +38,8 @@ fn passes_of<K: Naming>(
 }
 
 impl<K: Naming> Shared<K> {
-    /// A board of as many processes as the cell is for, at their start, with its frontier and a reading pass for each process.
+    /// Makes a board of as many processes as the cell is for, at their start, with its frontier and a reading pass for each
+    /// process.
     pub fn new(alloc: Global, blank: Blank) -> Result<(Shared<K>, Vec<Pass<K>>), AllocError>
         requires { blank ≡ K.cell }
         ensures { IfOk result (λ made. made.1.items ≡ replicate K.cell.n (first_front K.cell.n ∷ [])) }

@@ -38,7 +38,7 @@ pub fn bodies_text<S: Stable>(
     Ok(text)
 }
 
-// All receipts.
+// Reads all receipts.
 fn receipts_of<S: Stable>(alloc: Global, store: &mut S) -> Result<Vec<(u32, Vec<u8>)>, LookFault>
     ensures found { IsCleanCall S.is_clean S.IsSound store.old store.new
         → IfOk result (λ found. rows_of found.items ≡ between (S.content store.old).receipts 0 LAST_INTERVAL) }
@@ -85,7 +85,7 @@ fn push_line(
     }
 }
 
-// Bytes that are no receipt are passed over, and only want of memory is refused.
+// Passes over bytes that are no receipt: only memory that ran out is refused.
 fn refuse_memory(error: DecodeError) -> Result<(), AllocError>
     ensures { OnOk result (error ≢ DecodeError.Memory) }
 {

@@ -1,3 +1,5 @@
+//! Bytes, of which a few stand in place.
+
 ghost use Rattle.std.specs.Prelude.{◌≡◌, ◌≤◌, [], IfOk, length, nat_eq};
 ghost use Rattle.std.specs.Cmp.Lexicographic.{pointwise};
 ghost use Rattle.std.specs.Cmp.Rules.{comparing};
@@ -36,7 +38,7 @@ impl Model for Bytes {
 }
 
 impl Bytes {
-    /// No bytes.
+    /// Returns no bytes.
     pub fn empty() -> Bytes
         ensures { result ≡ [] }
     {
@@ -48,7 +50,7 @@ impl Bytes {
         }
     }
 
-    /// A copy of these bytes.
+    /// Copies these bytes. Refused only where memory ran out.
     pub fn from_slice(alloc: Global, bytes: &[u8]) -> Result<Bytes, AllocError>
         ensures { IfOk result (λ copy. copy ≡ bytes.now) }
     {
@@ -62,14 +64,14 @@ impl Bytes {
         Ok(Bytes { kept })
     }
 
-    /// The same bytes, in memory of their own.
+    /// Copies the bytes into memory of their own. Refused only where memory ran out.
     pub fn copy(&self, alloc: Global) -> Result<Bytes, AllocError>
         ensures { IfOk result (λ copy. copy ≡ self.now) }
     {
         Bytes::from_slice(alloc, self.as_slice())
     }
 
-    /// The bytes.
+    /// Returns the bytes as a slice.
     pub fn as_slice(&self) -> &[u8]
         ensures { result.now ≡ self.now }
     {

@@ -15,9 +15,7 @@ use crate::ended::ended;
 use crate::exploring::Explored;
 use crate::fault::PlayFault;
 use crate::next::next_delivery;
-use crate::playing::begin;
-use crate::stage::Stage;
-use crate::trail::Trail;
+use crate::trail::{Trail, begun};
 use crate::walk::{Choice, Walk, turn_back};
 use om_interval::{MAX_PROCESSES, Pid};
 use om_process::Image;
@@ -123,6 +121,28 @@ fn go_on(trail: &mut Trail, walk: &mut Walk, n: usize, limit: u64) -> Result<(),
     Err(PlayFault::Memory)
 }
 
+// Makes these choices anew, goes on to an end, and releases what was put out.
+fn walk_on(
+    trail: &mut Trail,
+    walk: &mut Walk,
+    choices: &[Choice],
+    n: usize,
+    limit: u64,
+) -> Result<(), PlayFault>
+    requires few { n ≤ MAX_PROCESSES }
+    requires all { n ≡ length trail.old.stage.world.programs }
+    requires way { IsUnderWay trail.old.stage.world.programs trail.old.stage.world }
+    requires taken { HasTaken trail.old.stage.world walk.old }
+    requires none { walk.old ≡ [] }
+    ensures run { OnOk result (StaysARun trail.old.events.items trail.old.stage.world trail.new.events.items trail.new.stage.world) }
+    ensures walked { OnOk result (IsWalked trail.old.stage.world.programs choices.now walk.new trail.new.stage.world) }
+{
+    repeat(trail, walk, choices, n, limit)?;
+    go_on(trail, walk, n, limit)?;
+    trail.release_all(n)?;
+    Ok(())
+}
+
 // Goes along these choices and on to an end, where nothing can be received but what is excluded.
 fn walk_along(
     alloc: Global,
@@ -135,19 +155,15 @@ fn walk_along(
     ensures walked { IfOk result (λ r. IsWalked (map program_of images.now) choices.now r.0.items r.1.stage.world) }
     ensures led { IfOk result (λ r. LeadTo (map program_of images.now) r.1.events.items r.1.stage.world) }
 {
-    let n = images.len();
-    let world = begin(alloc, images)?;
-    let mut trail = Trail {
-        stage: Stage::new(alloc, world, n)?,
-        events: Vec::new(alloc),
-        receipts: 0,
-    };
-    trail.run_all(n, limit)?;
+    let mut trail = begun(alloc, images, limit)?;
     let mut walk = Walk::new(alloc);
-    repeat(&mut trail, &mut walk, choices, n, limit)?;
-    go_on(&mut trail, &mut walk, n, limit)?;
-    trail.release_all(n)?;
-    Ok((walk.into_choices(), trail))
+    match walk_on(&mut trail, &mut walk, choices, images.len(), limit) {
+        Ok(()) => Ok((walk.into_choices(), trail)),
+        Err(fault) => {
+            drop(trail);
+            Err(fault)
+        }
+    }
 }
 
 // Shows the run of a world of so many processes, where it is at its end.

@@ -12,7 +12,8 @@ use crate::stage::Stage;
 use crate::trail::Trail;
 use om_interval::MAX_PROCESSES;
 
-// The run of so many processes at its end, of which all that was put out is released: none where a process can receive something.
+// Returns the run of so many processes at its end, of which all that was put out is released: none where a process can receive
+// something.
 pub(crate) fn ended(trail: Trail, n: usize) -> Result<Option<Explored>, PlayFault>
     requires few { n ≤ MAX_PROCESSES }
     requires all { n ≡ length trail.stage.world.programs }

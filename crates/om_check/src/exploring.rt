@@ -8,9 +8,7 @@ ghost use Rattle.om_check.specs.steps.Playing.{StaysARun};
 
 use crate::ended::ended;
 use crate::fault::PlayFault;
-use crate::playing::begin;
-use crate::stage::Stage;
-use crate::trail::Trail;
+use crate::trail::{Trail, begun};
 use om_interval::{MAX_PROCESSES, Pid};
 use om_process::Image;
 use om_stable::MemStable;
@@ -48,7 +46,7 @@ pub struct Explored {
     pub end: End,
 }
 
-// The deliveries that can come next: by receiver, and there by sender.
+// Returns the deliveries that can come next: by receiver, and there by sender.
 fn deliveries(alloc: Global, trail: &Trail, n: usize) -> Result<Vec<Delivery>, AllocError>
     requires { n ≤ MAX_PROCESSES }
 {
@@ -104,6 +102,24 @@ fn deliver_all<C: Scheduler>(
     Ok(false)
 }
 
+// Does the same, and releases what was put out where it ended so.
+fn deliver_to_end<C: Scheduler>(
+    alloc: Global,
+    trail: &mut Trail,
+    scheduler: &mut C,
+    n: usize,
+    limit: u64,
+) -> Result<bool, PlayFault>
+    requires { n ≤ MAX_PROCESSES }
+    ensures { OnOk result (StaysARun trail.old.events.items trail.old.stage.world trail.new.events.items trail.new.stage.world) }
+{
+    if !deliver_all(alloc, trail, scheduler, n, limit)? {
+        return Ok(false);
+    }
+    trail.release_all(n)?;
+    Ok(true)
+}
+
 // Returns what the scheduler picks.
 fn picked<C: Scheduler>(scheduler: &mut C, found: &[Delivery]) -> Option<Delivery> {
     let place = scheduler.pick(found)?;
@@ -126,16 +142,16 @@ pub fn explore<C: Scheduler>(
     ensures { IfOk result (λ run. IfSome run (IsExplored (map program_of images.now))) }
 {
     let n = images.len();
-    let world = begin(alloc, images)?;
-    let mut trail = Trail {
-        stage: Stage::new(alloc, world, n)?,
-        events: Vec::new(alloc),
-        receipts: 0,
-    };
-    trail.run_all(n, limit)?;
-    if !deliver_all(alloc, &mut trail, scheduler, n, limit)? {
-        return Ok(None);
+    let mut trail = begun(alloc, images, limit)?;
+    match deliver_to_end(alloc, &mut trail, scheduler, n, limit) {
+        Ok(true) => ended(trail, n),
+        Ok(false) => {
+            drop(trail);
+            Ok(None)
+        }
+        Err(fault) => {
+            drop(trail);
+            Err(fault)
+        }
     }
-    trail.release_all(n)?;
-    ended(trail, n)
 }

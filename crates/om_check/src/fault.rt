@@ -1,3 +1,5 @@
+//! Why a run without failures is not played.
+
 ghost use Rattle.std.specs.Prelude.{◌≡◌};
 ghost use Rattle.om_check.specs.declared.fault.PlayFault.TheVariants.{Memory};
 

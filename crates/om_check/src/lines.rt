@@ -21,7 +21,7 @@ pub(crate) struct FrameQueues {
 }
 
 impl FrameQueues {
-    // Of so many processes, before they run.
+    // Makes the queues of so many processes, before they run.
     pub(crate) fn new(alloc: Global, n: usize) -> Result<FrameQueues, AllocError> {
         let mut rows = Vec::with_capacity(alloc, n)?;
         for _ in 0..n {
@@ -30,7 +30,7 @@ impl FrameQueues {
         Ok(FrameQueues { rows, made: 0 })
     }
 
-    // The next message of the one to the other, if it was sent.
+    // Takes the next message of the one to the other, if it was sent.
     pub(crate) fn take(&mut self, from: usize, to: usize) -> Option<usize> {
         self.rows.get_mut(from)?.get_mut(to)?.frames.pop_front()
     }
@@ -63,7 +63,7 @@ impl FrameQueues {
     }
 }
 
-// No messages of a process to each of so many.
+// Makes the queues of no messages of a process to each of so many.
 fn row(alloc: Global, n: usize) -> Result<Vec<FrameQueue>, AllocError> {
     let mut row = Vec::with_capacity(alloc, n)?;
     for _ in 0..n {

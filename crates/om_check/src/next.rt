@@ -30,7 +30,7 @@ fn is_passed(sender: &ProcCore, core: &ProcCore, walk: &Walk, from: Pid, to: Pid
     walk.is_excluded(from, to)
 }
 
-// The next delivery to a process that waits, of so many: from the first sender that has something and is not excluded.
+// Returns the next delivery to a process that waits, of so many: from the first sender that has something and is not excluded.
 fn next_to(
     world: &World<MemStable>,
     walk: &Walk,
@@ -55,7 +55,7 @@ fn next_to(
     Ok(None)
 }
 
-// The next delivery to a process, of so many, where it waits.
+// Returns the next delivery to a process, of so many, where it waits.
 fn next_at(
     world: &World<MemStable>,
     walk: &Walk,
@@ -75,7 +75,7 @@ fn next_at(
     }
 }
 
-// The next delivery in a world of so many processes: none where all that can be received is excluded.
+// Returns the next delivery in a world of so many processes: none where all that can be received is excluded.
 pub(crate) fn next_delivery(
     world: &World<MemStable>,
     walk: &Walk,

@@ -58,7 +58,7 @@ impl<'a> Player<'a> {
         Ok(())
     }
 
-    // From whom a process is to receive next, if it is.
+    // Returns from whom a process is to receive next, if it is.
     fn sender(&self, pid: Pid) -> Option<u8> {
         let core = self.stage.world.core(pid)?;
         let witness = self.witnesses.get(pid.index())?;
@@ -179,7 +179,7 @@ impl<'a> Player<'a> {
         Ok(())
     }
 
-    // Refused where a process, of so many, is still to receive something.
+    // Refuses where a process, of so many, is still to receive something.
     fn all_received(&self, n: usize) -> Result<(), PlayFault>
         requires { n ≤ MAX_PROCESSES }
     {

@@ -5,7 +5,6 @@ ghost use Rattle.om_interval.specs.declared.pid.TheConstants.{MAX_PROCESSES};
 ghost use Rattle.om_process.specs.Images.{program_of};
 ghost use Rattle.om_world.specs.World.{IsEmpty};
 ghost use Rattle.om_world.specs.Started.{IsStarted};
-ghost use Rattle.om_process.specs.Core.{IsEnd};
 ghost use Rattle.om_check.specs.Whole.{IsDone, IsUnderWay, IsWhole};
 ghost use Rattle.om_manager.specs.State.{process_count};
 
@@ -13,12 +12,12 @@ use crate::fault::PlayFault;
 use crate::player::Player;
 use crate::stage::Stage;
 use om_interval::{MAX_PROCESSES, Pid};
-use om_process::{Image, Status, Witness};
+use om_process::{Image, Witness};
 use om_stable::MemStable;
 use om_world::{Event, World};
 use std::alloc::{AllocError, Global};
 
-// So many stores that hold nothing.
+// Makes `n` stores that hold nothing.
 fn empty_stores(alloc: Global, n: usize) -> Result<Vec<MemStable>, AllocError>
     ensures number { IfOk result (λ stores. length stores.items ≡ n) }
     ensures empty { IfOk result (λ stores. All IsEmpty stores.items) }
@@ -30,7 +29,7 @@ fn empty_stores(alloc: Global, n: usize) -> Result<Vec<MemStable>, AllocError>
     Ok(stores)
 }
 
-// The world of these images at its start.
+// Makes the world of these images at its start.
 pub(crate) fn begin(alloc: Global, images: &[Image]) -> Result<World<MemStable>, PlayFault>
     requires some { 1 ≤ length images.now }
     requires few { length images.now ≤ MAX_PROCESSES }
@@ -44,16 +43,6 @@ pub(crate) fn begin(alloc: Global, images: &[Image]) -> Result<World<MemStable>,
     }
 }
 
-// Returns whether a status is that of an end.
-fn has_ended(status: Status) -> bool
-    ensures { IsTrue result → IsEnd status }
-{
-    match status {
-        Status::Ended(_) | Status::Trapped(_) => true,
-        Status::Ready | Status::Waiting => false,
-    }
-}
-
 // Returns whether a process has ended, and all that it put out is released.
 pub(crate) fn is_done(world: &World<MemStable>, pid: Pid) -> bool
     requires { pid < process_count world.now.manager }
@@ -61,13 +50,13 @@ pub(crate) fn is_done(world: &World<MemStable>, pid: Pid) -> bool
 {
     match world.core(pid) {
         Some(core) => {
-            has_ended(core.status()) && world.manager().released(pid).len() as u64 == core.made()
+            core.status().has_ended() && world.manager().released(pid).len() as u64 == core.made()
         }
         None => false,
     }
 }
 
-// Refused where one of so many processes has not ended.
+// Refuses where one of so many processes has not ended.
 fn all_done(world: &World<MemStable>, n: usize) -> Result<(), PlayFault>
     requires few { n ≤ MAX_PROCESSES }
     requires managed { n ≤ process_count world.now.manager }

@@ -17,7 +17,7 @@ use om_process::{ProcCore, Status};
 use om_stable::MemStable;
 use om_world::World;
 
-// The process, which is up.
+// Returns the process where it is up, and refuses where it is not.
 pub(crate) fn up(world: &World<MemStable>, pid: Pid) -> Result<&ProcCore, PlayFault>
     ensures core { IfOk result (λ core. slice_get world.now.cores pid ≡ Some (Some core.now)) }
     ensures own { IfOk result (λ core. core.now.own ≡ pid) }
@@ -131,7 +131,7 @@ pub(crate) fn end_of(world: &World<MemStable>, n: usize) -> Result<Option<End>, 
     Ok(Some(end))
 }
 
-// The end with one process more: none where that can receive something.
+// Returns the end with one process more: none where that can receive something.
 fn end_with(end: End, rest: Rest) -> Option<End>
     ensures some { IfSome result (λ next. (w : WorldState) (p n : ℕ) → StandsIn w end p → StandsAs w p n rest → StandsIn w next (p + 1)) }
     ensures none { result ≡ None → rest ≡ Rest.GoesOn }

@@ -20,7 +20,7 @@ pub(crate) struct Stage {
 }
 
 impl Stage {
-    // A world of so many processes at its start.
+    // Makes a stage of a world of so many processes at its start.
     pub(crate) fn new(alloc: Global, world: World<MemStable>, n: usize) -> Result<Stage, AllocError>
         ensures { IfOk result (λ stage. stage.world ≡ world) }
     {

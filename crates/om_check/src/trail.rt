@@ -1,15 +1,20 @@
 //! A run without failures as it goes on, with all that happened.
 
-ghost use Rattle.std.specs.Prelude.{◌≡◌, ◌≤◌, OnOk};
+ghost use Rattle.std.specs.Prelude.{◌≡◌, ◌≤◌, [], IfOk, OnOk, length, map};
 ghost use Rattle.om_interval.specs.declared.pid.TheConstants.{MAX_PROCESSES};
+ghost use Rattle.om_process.specs.Images.{program_of};
+ghost use Rattle.om_check.specs.Explored.{LeadTo};
+ghost use Rattle.om_check.specs.Whole.{IsUnderWay};
 ghost use Rattle.om_check.specs.steps.Playing.{HasDelivered, HasReceived, IsOf, KeepsLive, StaysARun};
 
 use crate::events::{checkpoint, flush, give, prune, run, trim};
 use crate::fault::PlayFault;
+use crate::playing::begin;
 use crate::stage::{RECEIPTS_KEPT, Stage};
 use om_interval::{MAX_PROCESSES, Pid};
-use om_process::Status;
+use om_process::{Image, Status};
 use om_world::Event;
+use std::alloc::Global;
 
 // A world, and the events that led to it.
 #[derive(Drop)]
@@ -18,6 +23,41 @@ pub(crate) struct Trail {
     pub(crate) events: Vec<Event>,
     // How many receipts there were since the world dropped what it need not keep.
     pub(crate) receipts: usize,
+}
+
+// The world of these images at its start, to which nothing led.
+fn at_start(alloc: Global, images: &[Image]) -> Result<Trail, PlayFault>
+    requires some { 1 ≤ length images.now }
+    requires few { length images.now ≤ MAX_PROCESSES }
+    ensures way { IfOk result (λ trail. IsUnderWay (map program_of images.now) trail.stage.world) }
+    ensures led { IfOk result (λ trail. LeadTo (map program_of images.now) trail.events.items trail.stage.world) }
+    ensures live { IfOk result (λ trail. trail.stage.world.live ≡ []) }
+{
+    let world = begin(alloc, images)?;
+    Ok(Trail {
+        stage: Stage::new(alloc, world, images.len())?,
+        events: Vec::new(alloc),
+        receipts: 0,
+    })
+}
+
+// The same, where each process has run until it waits or has ended. Who owns a world gives it up by a call at a fault: at the end of a
+// scope each of its parts would be dropped, which the prover goes through one by one.
+pub(crate) fn begun(alloc: Global, images: &[Image], limit: u64) -> Result<Trail, PlayFault>
+    requires some { 1 ≤ length images.now }
+    requires few { length images.now ≤ MAX_PROCESSES }
+    ensures way { IfOk result (λ trail. IsUnderWay (map program_of images.now) trail.stage.world) }
+    ensures led { IfOk result (λ trail. LeadTo (map program_of images.now) trail.events.items trail.stage.world) }
+    ensures live { IfOk result (λ trail. trail.stage.world.live ≡ []) }
+{
+    let mut trail = at_start(alloc, images)?;
+    match trail.run_all(images.len(), limit) {
+        Ok(()) => Ok(trail),
+        Err(fault) => {
+            drop(trail);
+            Err(fault)
+        }
+    }
 }
 
 impl Trail {
@@ -69,7 +109,7 @@ impl Trail {
         Ok(())
     }
 
-    // Refused where a frame is not of these two.
+    // Refuses where a frame is not of these two.
     fn is_of(&self, frame: usize, from: Pid, to: Pid) -> Result<(), PlayFault>
         ensures { OnOk result (IsOf self.now.stage.world frame from to) }
     {

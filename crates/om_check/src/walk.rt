@@ -75,7 +75,7 @@ impl Walk {
         Ok(())
     }
 
-    // Declines one.
+    // Declines a delivery.
     pub(crate) fn decline(&mut self, from: Pid, to: Pid) -> Result<(), AllocError>
         ensures declined { OnOk result (self.new ≡ self.old ++ declining (record { from = from; to = to }) ∷ []) }
         ensures refused { OnErr result (self.new ≡ self.old) }
@@ -90,7 +90,7 @@ impl Walk {
         Ok(())
     }
 
-    // The choices.
+    // Gives back the choices of the walk.
     pub(crate) fn into_choices(self) -> Vec<Choice>
         ensures { result.items ≡ self }
     {
@@ -105,7 +105,7 @@ fn is_of(delivery: &Delivery, from: Pid, to: Pid) -> bool
     delivery.from == from && delivery.to == to
 }
 
-// Those of the deliveries that are to others.
+// Returns those of the deliveries that are to others.
 fn elsewhere(alloc: Global, excluded: &[Delivery], to: Pid) -> Result<Vec<Delivery>, AllocError>
     ensures { IfOk result (λ kept. (walk : List Choice) (from : ℕ) → All (IsExcluded walk) excluded.now
         → All (IsExcluded (walk ++ taking (record { from = from; to = to }) ∷ [])) kept.items) }

@@ -32,7 +32,7 @@ pub fn decode<R: Read, W: Write>(
     write_answer(writer, &text)
 }
 
-// The text of each word, on a line of its own.
+// Returns the text of each word, on a line of its own.
 fn listing(alloc: Global, ext: Ext, words: &[u32]) -> Result<Vec<u8>, AllocError>
     ensures { IfOk result (λ text. IsListing ext words.now text.items) }
 {

@@ -1,3 +1,5 @@
+//! Why a command is refused.
+
 ghost use Rattle.std.specs.Prelude.{◌≡◌};
 ghost use Rattle.om_text.specs.declared.text.ReadError.TheVariants as reading;
 ghost use Rattle.om_text.specs.declared.error.BuildError.TheVariants as errors;

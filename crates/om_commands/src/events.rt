@@ -11,7 +11,7 @@ ghost use Rattle.om_world.specs.declared.event.Event.{Event};
 use om_text::{LineError, long_number_of, number_of};
 use om_world::Event;
 
-// The event of a line, by its first word and those behind it.
+// Reads the event of a line, by its first word and those behind it.
 pub(crate) fn event_of(first: &[u8], words: &[&[u8]]) -> Result<Event, LineError>
     ensures { result ≡ event_line first.now (map (λ word. word.now) words.now) }
 {
@@ -30,7 +30,7 @@ pub(crate) fn event_of(first: &[u8], words: &[&[u8]]) -> Result<Event, LineError
     event_at(first, words)
 }
 
-// The event of a line that names a process alone.
+// Reads the event of a line that names a process alone.
 fn event_at(first: &[u8], words: &[&[u8]]) -> Result<Event, LineError>
     ensures { result ≡ event_at first.now (map (λ word. word.now) words.now) }
 {
@@ -68,7 +68,7 @@ fn event_at(first: &[u8], words: &[&[u8]]) -> Result<Event, LineError>
     Err(LineError::UnknownLine)
 }
 
-// A flush of the whole log, or of so many receipts of it.
+// Reads a flush of the whole log, or of so many receipts of it.
 fn flush_of(words: &[&[u8]]) -> Result<Event, LineError>
     ensures { result ≡ flush_line (map (λ word. word.now) words.now) }
 {
@@ -84,7 +84,7 @@ fn flush_of(words: &[&[u8]]) -> Result<Event, LineError>
     Ok(Event::FlushFirst { process, count })
 }
 
-// The process that the one word stands for.
+// Reads the process that the one word stands for.
 fn process_in(words: &[&[u8]]) -> Result<usize, LineError>
     ensures { result ≡ process_in (map (λ word. word.now) words.now) }
 {
@@ -94,7 +94,7 @@ fn process_in(words: &[&[u8]]) -> Result<usize, LineError>
     place_of(word)
 }
 
-// The number of a process or a frame.
+// Reads the number of a process or a frame.
 fn place_of(word: &[u8]) -> Result<usize, LineError>
     ensures { result ≡ or_error (number_of word.now) LineError.BadNumber }
 {
@@ -128,7 +128,7 @@ fn give_of(words: &[&[u8]]) -> Result<Event, LineError>
     Ok(Event::Give { process, frame })
 }
 
-// An event of the whole, which no word follows.
+// Reads an event of the whole, which no word follows.
 fn alone(words: &[&[u8]], event: Event) -> Result<Event, LineError>
     ensures { result ≡ alone event (map (λ word. word.now) words.now) }
 {

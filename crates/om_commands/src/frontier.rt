@@ -33,7 +33,7 @@ pub fn frontier<R: Read, W: Write>(
     write_answer(writer, text.as_bytes())
 }
 
-// The text that answers a script.
+// Returns the text that answers a script.
 fn answer(alloc: Global, script: &RecordScript) -> Result<String, CommandError>
     ensures text { IfOk result (λ text. IsFrontierAnswer script.now (string_bytes text)) }
     ensures error { IfErr result (λ error. (error ≡ CommandError.NoMemory)

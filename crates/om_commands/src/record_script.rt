@@ -51,7 +51,7 @@ impl RecordScript {
         }
     }
 
-    /// The number of processes, once it is given.
+    /// Returns the number of processes, once it is given.
     pub fn processes(&self) -> Option<usize>
         ensures number { result ≡ self.now.processes }
         ensures in_range { IfSome result (λ n. (1 ≤ n) × (n ≤ MAX_PROCESSES)) }
@@ -59,7 +59,7 @@ impl RecordScript {
         self.processes
     }
 
-    /// The notes in order.
+    /// Returns the notes in order.
     pub fn notes(&self) -> &[NoteLine]
         ensures { result.now ≡ self.now.notes }
     {
@@ -144,7 +144,7 @@ fn read_numbers(words: &[&[u8]], numbers: &mut Vec<u32>) -> Result<(), BuildErro
     Ok(())
 }
 
-// The note of a process, an interval and a vector.
+// Makes the note of a process, an interval and a vector.
 fn note_of(kind: RowKind, numbers: &[u32]) -> NoteLine
     requires least { 3 ≤ length numbers.now }
     requires most { length numbers.now ≤ MAX_PROCESSES + 2 }

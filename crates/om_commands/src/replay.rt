@@ -39,7 +39,7 @@ pub fn replay<S: Stable, W: Write>(
     write_answer(writer, text.as_bytes())
 }
 
-// The text of the process that is replayed.
+// Returns the text of the process that is replayed.
 fn replayed<S: Stable>(alloc: Global, store: &mut S, interval: u32) -> Result<String, CommandError>
     ensures text { IsCleanCall S.is_clean S.IsSound store.old store.new
         → IfOk result (λ text. IsReplayText (S.content store.old) interval (string_bytes text)) }

@@ -1,3 +1,5 @@
+//! The text of what the notes of a cluster lead to.
+
 ghost use Rattle.std.specs.Prelude.{◌≡◌, ◌≢◌, ◌≤◌, ◌++◌, ◌∷◌, [], ℕ, List, length, Err, Ok, IfOk, OnOk, string_bytes};
 ghost use Rattle.om_interval.specs.declared.pid.TheConstants.{MAX_PROCESSES};
 ghost use Rattle.om_recover.specs.Offered.{offered, TellsChange};
@@ -11,8 +13,8 @@ use om_recover::{Note, NoteError, Records, RowKind, Work};
 use std::alloc::{AllocError, Global};
 use std::fmt::Write;
 
-/// The text of the notes of a cluster of `n` processes: a line for the answer to each with the recovery state after it,
-/// and the recovery state in the end.
+/// Makes the text of the notes of a cluster of `n` processes: a line for the answer to each with the recovery state
+/// after it, and the recovery state in the end.
 pub fn report(alloc: Global, n: usize, notes: &[NoteLine]) -> Result<String, AllocError>
     requires some { 1 ≤ n }
     requires within { n ≤ MAX_PROCESSES }

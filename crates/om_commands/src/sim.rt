@@ -43,7 +43,7 @@ pub fn sim<R: Read, W: Write>(
     write_answer(writer, text.as_bytes())
 }
 
-// The text that answers the script of an input.
+// Returns the text that answers the script of an input.
 fn answer_to<R: Read>(
     alloc: Global,
     form: BytesForm,
@@ -57,7 +57,7 @@ fn answer_to<R: Read>(
     answer(alloc, form, &script)
 }
 
-// The text that answers a script.
+// Returns the text that answers a script.
 fn answer(alloc: Global, form: BytesForm, script: &SimScript) -> Result<String, CommandError>
     ensures text { IfOk result (λ text. IsSimAnswer form script.now (string_bytes text)) }
     ensures error { IfErr result (λ error. (error ≡ CommandError.NoMemory)
@@ -71,7 +71,7 @@ fn answer(alloc: Global, form: BytesForm, script: &SimScript) -> Result<String, 
     Ok(told(alloc, form, script, &mut world)?)
 }
 
-/// The world of these programs at its start, over stores that hold nothing. Refused where memory runs out.
+/// Makes the world of these programs at its start, over stores that hold nothing. Refused where memory runs out.
 pub fn start(alloc: Global, programs: &Programs) -> Result<World<MemStable>, AllocError>
     requires some { 1 ≤ length programs.now.processes }
     requires few { length programs.now.processes ≤ MAX_PROCESSES }
@@ -100,7 +100,7 @@ fn told(
     Ok(text)
 }
 
-// So many stores that hold nothing.
+// Makes `n` stores that hold nothing.
 fn empty_stores(alloc: Global, n: usize) -> Result<Vec<MemStable>, AllocError>
     ensures number { IfOk result (λ stores. length stores.items ≡ n) }
     ensures empty { IfOk result (λ stores. All IsEmpty stores.items) }
@@ -112,7 +112,7 @@ fn empty_stores(alloc: Global, n: usize) -> Result<Vec<MemStable>, AllocError>
     Ok(stores)
 }
 
-// The world of these images at its start, over stores that hold nothing.
+// Makes the world of these images at its start, over stores that hold nothing.
 fn begin(alloc: Global, images: &[Image]) -> Result<World<MemStable>, AllocError>
     requires some { 1 ≤ length images.now }
     requires few { length images.now ≤ MAX_PROCESSES }
@@ -127,7 +127,7 @@ fn begin(alloc: Global, images: &[Image]) -> Result<World<MemStable>, AllocError
     }
 }
 
-// The one fault that programs which can be loaded and stores which are empty leave.
+// Returns the one fault that programs which can be loaded and stores which are empty leave.
 fn memory(fault: StartFault) -> AllocError
     requires { fault ≡ StartFault.Memory }
 {

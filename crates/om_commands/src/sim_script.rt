@@ -25,7 +25,7 @@ impl Model for SimScript {
 }
 
 impl SimScript {
-    /// Of no line yet.
+    /// Makes a script of no line yet.
     pub fn new(alloc: Global) -> SimScript
         ensures { result ≡ no_events }
     {
@@ -35,14 +35,14 @@ impl SimScript {
         }
     }
 
-    /// The programs and processes.
+    /// Returns the programs and processes.
     pub fn programs(&self) -> &Programs
         ensures { result.now ≡ self.now.cluster }
     {
         &self.programs
     }
 
-    /// The events in order.
+    /// Returns the events in order.
     pub fn events(&self) -> &[Event]
         ensures { result.now ≡ self.now.events }
     {

@@ -119,7 +119,7 @@ pub(crate) fn push_answers(
     Ok(())
 }
 
-/// The name of a process.
+/// Returns the name of a process.
 pub fn name_of(programs: &Programs, p: usize) -> &str
     requires { p < length programs.now.processes }
     ensures { result.now ≡ name_at programs.now p }

@@ -15,7 +15,8 @@ use std::fmt::Write;
 /// The bytes of memory on one line.
 pub const ROW_BYTES: usize = 16;
 
-/// The text of a process: its interval, its count of instructions, pc, registers and memory, and what it is about to do.
+/// Makes the text of a process: its interval, its count of instructions, pc, registers and memory, and what it is about
+/// to do.
 pub fn state_text(alloc: Global, core: &ProcCore) -> Result<String, AllocError>
     ensures { IfOk result (λ text. string_bytes text ≡ written_state core.now) }
 {
@@ -57,7 +58,7 @@ fn push_registers(alloc: Global, text: &mut String, regs: &[u32]) -> Result<(), 
     Ok(())
 }
 
-// The numbers of x0 to x31.
+// Returns the numbers of x0 to x31.
 fn registers_of(machine: &Machine) -> [u32; REGISTERS]
     ensures { result ≡ machine.now.regs }
 {

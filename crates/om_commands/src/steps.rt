@@ -45,7 +45,7 @@ pub fn replay_steps<S: Stable, W: Write>(
     write_answer(writer, &text)
 }
 
-// The text of the process that is replayed and goes on.
+// Returns the text of the process that is replayed and goes on.
 fn stepped<S: Stable>(
     alloc: Global,
     store: &mut S,
@@ -67,7 +67,8 @@ fn stepped<S: Stable>(
     Ok(text_behind(alloc, core, steps, traced)?)
 }
 
-// The text of a process that goes on from here.
+// Returns the text of a process that goes on from here, and gives the process up by a call: at the end of a scope each of its parts
+// would be dropped, which the prover goes through one by one.
 fn text_behind(
     alloc: Global,
     core: ProcCore,
@@ -77,9 +78,23 @@ fn text_behind(
     ensures { IfOk result (λ text. IsTextBehind core steps traced text.items) }
 {
     let mut core = core;
+    let text = text_along(alloc, &mut core, steps, traced);
+    drop(core);
+    text
+}
+
+// Returns the lines of a process's trace, if there is to be one, and the text of where it stands then.
+fn text_along(
+    alloc: Global,
+    core: &mut ProcCore,
+    steps: u64,
+    traced: bool,
+) -> Result<Vec<u8>, AllocError>
+    ensures { IfOk result (λ text. IsTextBehind core.old steps traced text.items) }
+{
     let mut text = Vec::new(alloc);
-    go_on(alloc, &mut core, steps, traced, &mut text)?;
-    text.extend_from_slice(state_text(alloc, &core)?.as_bytes())?;
+    go_on(alloc, core, steps, traced, &mut text)?;
+    text.extend_from_slice(state_text(alloc, core)?.as_bytes())?;
     Ok(text)
 }
 

@@ -1,3 +1,5 @@
+//! A script of words of the machine.
+
 ghost use Rattle.std.specs.Prelude.{◌≡◌, ℕ, List, []};
 ghost use Rattle.om_commands.specs.WordScript.{word_script_line};
 

@@ -47,7 +47,7 @@ impl DatabaseBytes {
     }
 }
 
-// A file in memory that holds these bytes.
+// Makes a file in memory that holds these bytes.
 fn memory_of(alloc: Global, bytes: &[u8]) -> Result<Memory, CopyError>
     ensures bytes { IfOk result (λ memory. memory_bytes memory ≡ bytes.now) }
     ensures usable { IfOk result (λ memory. IsTrue (memory_is_usable memory)) }

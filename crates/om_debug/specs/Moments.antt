@@ -37,7 +37,7 @@ is_at_instruction Receipt = true
 is_at_instruction Failure = false
 is_at_instruction Return = false
 
--- nothing comes
+-- whether nothing comes next
 abbrev pub is_still : Next → Bool
 is_still Still = true
 is_still (Instructions left) = false

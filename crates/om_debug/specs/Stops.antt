@@ -70,7 +70,7 @@ abbrev pub IsQuiet : List ℕ → List Watch → TimelineState → ℕ → ℕ �
 IsQuiet breaks watches t event turns end done = (e k : ℕ) → IsFrom event turns e k → IsBefore e k end done → k ≤ turns_at t.deeds e
     → stop_at breaks watches t e k ≡ None
 
--- nor is it anywhere between the two
+-- nothing stops the process at a position between the one and the other, these two not counted
 abbrev pub IsQuietBehind : List ℕ → List Watch → TimelineState → ℕ → ℕ → ℕ → ℕ → Type 0
 IsQuietBehind breaks watches t event turns end done = (e k : ℕ) → IsBefore event turns e k → IsBefore e k end done → k ≤ turns_at t.deeds e
     → stop_at breaks watches t e k ≡ None

@@ -69,7 +69,7 @@ set_break address breaks = if list_any (λ other. other == address) breaks then 
 abbrev pub clear_break : ℕ → List ℕ → List ℕ
 clear_break address breaks = filter (λ other. not (other == address)) breaks
 
--- the same watchpoint
+-- whether two kinds of watchpoints are the same
 abbrev pub is_watched : Watched → Watched → Bool
 is_watched Writes Writes = true
 is_watched Reads Reads = true

@@ -175,7 +175,7 @@ impl Debugger {
         }
     }
 
-    // Where time and the process stand, as it is told.
+    // Returns where time and the process stand, as it is told.
     fn said_where(&self) -> Result<Reply, PlayFault>
         ensures said { IfOk result (λ told. IsSaid (where_text self.now) told) }
         ensures last { IfOk result (λ told. is_last told ≡ false) }
@@ -184,7 +184,7 @@ impl Debugger {
         Ok(self.said(&text)?)
     }
 
-    // A text for the user, whose bytes are told in hexadecimal.
+    // Makes a text for the user, whose bytes are told in hexadecimal.
     fn said(&self, text: &str) -> Result<Reply, AllocError>
         ensures said { IfOk result (λ told. IsSaid text.now told) }
         ensures last { IfOk result (λ told. is_last told ≡ false) }
@@ -214,7 +214,7 @@ impl Debugger {
         Ok(Reply::Text(stop_text(self.alloc, stop)?.into_bytes()))
     }
 
-    // The answer to what is only asked: for what moves, nothing.
+    // Returns the answer to what is only asked: for what moves, nothing.
     fn asked(&self, request: Request) -> Result<Vec<u8>, AllocError>
         ensures { IfOk result (λ text. text.items ≡ asked self.now request) }
     {
@@ -256,7 +256,7 @@ impl Debugger {
         Ok(())
     }
 
-    /// Stops it there no more.
+    /// Takes the breakpoint at an address away.
     pub fn clear_break(&mut self, address: u32)
         ensures { self.new ≡ with_breaks self.old (clear_break address self.old.breaks) }
     {
@@ -274,7 +274,7 @@ impl Debugger {
         Ok(())
     }
 
-    /// Stops it there no more.
+    /// Takes a watchpoint away.
     pub fn clear_watch(&mut self, watch: Watch)
         ensures { self.new ≡ with_watches self.old (clear_watch watch self.old.watches) }
     {

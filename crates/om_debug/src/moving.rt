@@ -93,7 +93,7 @@ impl Debugger {
         Ok(Stop::Paused)
     }
 
-    // A piece of the way, and what stops it.
+    // Makes a piece of the way, and returns what stops it.
     #[tactic(auto, using(crate::proofs::Moved::moved_then, crate::proofs::Moved::same_then, crate::proofs::Quiet::passed_then, crate::proofs::Quiet::within_of))]
     fn advance(&mut self, how: Resume) -> Result<Option<Stop>, PlayFault>
         ensures within { IsWithin self.old.timeline }
@@ -185,7 +185,7 @@ impl Debugger {
         is_at_instruction(self.next()) && self.breaks.contains(&self.timeline.machine().pc())
     }
 
-    // The watchpoint that what comes next meets.
+    // Returns the watchpoint that what comes next meets.
     fn watch_here(&self) -> Option<Watch>
         ensures { result ≡ watch_here self.now }
     {
@@ -407,7 +407,8 @@ impl Debugger {
         }
     }
 
-    // The same, where what came last to the process came in this event or behind it: it goes no further back than to before that.
+    // Goes back as `part_back` does, where what came last to the process came in this event or behind it: it goes no further back than to
+    // before that.
     #[tactic(auto, using(crate::proofs::Backwards::stands_then, crate::proofs::Backwards::back_quiet, crate::proofs::Backwards::back_breaks, crate::proofs::Backwards::back_meets, crate::proofs::Backwards::back_paused, crate::proofs::Backwards::again_at))]
     fn part_behind<R: Wish>(
         &mut self,
@@ -475,7 +476,7 @@ impl Debugger {
         self.breaks.len() > 0 || self.watches.len() > 0
     }
 
-    // The position before what came last to the process, where anything may have stopped it before here.
+    // Returns the position before what came last to the process, where anything may have stopped it before here.
     #[tactic(auto, using(crate::proofs::Backwards::still_quiet, crate::proofs::Looking::none_quiet))]
     fn last_watched(&self) -> Option<Position>
         ensures { MatchOption result (IsQuiet self.now.breaks self.now.watches self.now.timeline 0 0 self.now.timeline.event self.now.timeline.turns)
@@ -487,7 +488,7 @@ impl Debugger {
         self.last()
     }
 
-    // The same, where that came in this event or behind it.
+    // Returns the position of `last_watched`, where that came in this event or behind it.
     #[tactic(auto, using(crate::proofs::Looking::last_quiet, crate::proofs::Looking::quiet_from))]
     fn last_from(&self, event: usize) -> Option<Position>
         ensures { MatchOption result (IsQuiet self.now.breaks self.now.watches self.now.timeline event 0 self.now.timeline.event self.now.timeline.turns)
@@ -594,7 +595,7 @@ impl Debugger {
         Ok(self.timeline.look(self.alloc)? == Peek::End)
     }
 
-    // The position before what came last to the process.
+    // Returns the position before what came last to the process.
     fn last(&self) -> Option<Position>
         ensures { MatchOption result (IsStillBefore self.now.timeline.deeds self.now.timeline.event self.now.timeline.turns)
             (λ at. IsLast self.now.timeline.deeds at.event at.turns self.now.timeline.event self.now.timeline.turns) }
@@ -616,7 +617,7 @@ enum Part {
     Paused,
 }
 
-// The position before what came last to the process before another position.
+// Returns the position before what came last to the process before another position.
 #[tactic(auto, using(crate::proofs::Stepping::last_turn, crate::proofs::Stepping::last_back, crate::proofs::Stepping::still_none, crate::proofs::Stepping::still_back, crate::proofs::Stepping::still_all))]
 fn last_before(deeds: &[Deed], at: Position) -> Option<Position>
     requires { at.turns ≤ turns_at deeds.now at.event }

@@ -42,7 +42,7 @@ fn is_still(next: Next) -> bool
 }
 
 impl Debugger {
-    /// The position of the process.
+    /// Returns the position of the process.
     pub fn position(&self) -> Position
         ensures event { result.event ≡ self.now.timeline.event }
         ensures turns { result.turns ≡ self.now.timeline.turns }
@@ -52,7 +52,7 @@ impl Debugger {
         self.timeline.position()
     }
 
-    /// The machine of the process at its position: where it is down, the one that it had.
+    /// Returns the machine of the process at its position: where it is down, the one that it had.
     pub fn machine(&self) -> &Machine
         ensures { result.now ≡ machine_here self.now.timeline }
     {

@@ -1,3 +1,5 @@
+//! Why a process stands, and what a debugger is told of it.
+
 ghost use Rattle.std.specs.Prelude.{◌≡◌, IfOk, string_bytes};
 ghost use Rattle.om_debug.specs.Stops.{stop_text, trap_text, watch_word};
 
@@ -28,8 +30,8 @@ pub enum Stop {
     End,
 }
 
-// The answer for a process that cannot go on: SIGSEGV for an address outside memory, SIGBUS for one that is not aligned, SIGTRAP for
-// EBREAK, and SIGILL for the rest.
+// Returns the answer for a process that cannot go on: SIGSEGV for an address outside memory, SIGBUS for one that is not aligned,
+// SIGTRAP for EBREAK, and SIGILL for the rest.
 fn trap_text(cause: Cause) -> &'static str
     ensures { result.now ≡ trap_text cause }
 {

@@ -20,7 +20,7 @@ pub(crate) struct Access {
     pub(crate) writes: bool,
 }
 
-// The instruction at pc, if one is there.
+// Returns the instruction at pc, if one is there.
 fn inst_at(machine: &Machine) -> Option<Inst>
     ensures { result ≡ inst_at machine.now }
 {
@@ -107,7 +107,7 @@ fn meets(watch: Watch, access: Access) -> bool
     heeds(watch.kind, access.writes) && overlaps(watch, access)
 }
 
-// The first watchpoint that an access meets.
+// Returns the first watchpoint that an access meets.
 fn first_met(watches: &[Watch], access: Option<Access>) -> Option<Watch>
     ensures { result ≡ first_met access watches.now }
 {
@@ -143,7 +143,7 @@ fn changes(watch: Watch, before: &Machine, after: &Machine) -> bool
     }
 }
 
-// The first watchpoint whose bytes are others in the second machine.
+// Returns the first watchpoint whose bytes are others in the second machine.
 fn first_changed(watches: &[Watch], before: &Machine, after: &Machine) -> Option<Watch>
     ensures { result ≡ first_changed before.now after.now watches.now }
 {
@@ -155,7 +155,7 @@ fn first_changed(watches: &[Watch], before: &Machine, after: &Machine) -> Option
     None
 }
 
-// The watchpoint that what comes next at a position meets.
+// Returns the watchpoint that is met by what comes next at a position.
 #[tactic(auto, using(crate::proofs::Quiet::none_met_of, crate::proofs::Quiet::watch_read, crate::proofs::Quiet::watch_past))]
 pub(crate) fn watch_met(
     watches: &[Watch],

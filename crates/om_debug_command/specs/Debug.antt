@@ -34,7 +34,7 @@ pub record IsBegunAt (script : EventScript) (name : List ℕ) (d : DebugState) :
   pub is_begun : IsBegun (programs_of script.cluster) begun
   pub begins : IsBegin d.timeline place begun script.events
 
--- the same, of the script that these bytes are
+-- the process of this name in the script that these bytes are
 pub record IsOpened (bytes name : List ℕ) (d : DebugState) : Type 0 where
   pub script : EventScript
   pub is_script : IsScript event_script_line no_events bytes script
@@ -61,7 +61,7 @@ pub record IsBegunAll (script : EventScript) (symbols : List Symbols) (d : Infer
   pub focus : d.focus ≡ 1
   pub going : d.going ≡ None
 
--- the same, of the script that these bytes are
+-- all processes of the script that these bytes are, as `IsBegunAll` has them
 pub record IsAllOpened (bytes : List ℕ) (symbols : List Symbols) (d : Inferiors) : Type 0 where
   pub script : EventScript
   pub is_script : IsScript event_script_line no_events bytes script

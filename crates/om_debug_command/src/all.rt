@@ -78,7 +78,7 @@ fn begin_all(
     Ok(Inferiors::new(members_of(alloc, script, symbols, count)?))
 }
 
-// The first so many processes.
+// Returns the first so many processes.
 fn members_of(
     alloc: Global,
     script: &SimScript,
@@ -96,7 +96,7 @@ fn members_of(
     Ok(members)
 }
 
-// The process at a place, before the first event.
+// Returns the process at a place, before the first event.
 fn member_at(
     alloc: Global,
     script: &SimScript,

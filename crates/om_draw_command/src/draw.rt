@@ -58,7 +58,7 @@ pub fn draw<R: Read, W: Write>(
     write_answer(writer, text.as_bytes())
 }
 
-// The picture of the script of an input.
+// Makes the picture of the script of an input.
 fn picture_of<R: Read>(
     alloc: Global,
     reader: &mut R,
@@ -94,7 +94,7 @@ fn read_events<R: Read>(alloc: Global, reader: &mut R) -> Result<Input, CommandE
     Ok(Input { bytes, script })
 }
 
-// The numbers of the lines of the events, which stand behind all others.
+// Returns the numbers of the lines of the events, which stand behind all others.
 fn event_lines(alloc: Global, input: &Input) -> Result<Vec<usize>, AllocError>
     ensures { IfOk result (λ lines. lines.items ≡ event_lines input.now.bytes.items (length input.now.script.events)) }
 {
@@ -110,7 +110,7 @@ fn count_within(lines: &[usize], last: usize) -> usize
     lines.iter().filter(|line| **line <= last).count()
 }
 
-// The picture of the first events of a script, so many, whose window begins at a line.
+// Makes the picture of the first events of a script, so many, whose window begins at a line.
 fn draw_script(
     alloc: Global,
     script: &SimScript,
@@ -131,7 +131,7 @@ fn draw_script(
     Ok(played_picture(alloc, script, lines, count, from, &mut world)?)
 }
 
-// The same, from this world on.
+// Makes the picture of the first events of a script, played from this world on.
 fn played_picture(
     alloc: Global,
     script: &SimScript,
@@ -155,7 +155,7 @@ fn played_picture(
     picture_text(alloc, programs, &drawn)
 }
 
-// The first events, so many.
+// Returns the first events, so many.
 fn first_of(events: &[Event], count: usize) -> &[Event]
     ensures { result.now ≡ take count events.now }
 {
@@ -183,7 +183,7 @@ fn play(
     Ok(())
 }
 
-// The number of the line of an event, and 0 where there is none.
+// Returns the number of the line of an event, and 0 where there is none.
 fn line_of(lines: &[usize], k: usize) -> usize
     ensures { result ≡ slice_index lines.now k }
 {

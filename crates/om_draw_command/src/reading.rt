@@ -23,7 +23,7 @@ struct ProcessBefore {
     next: u64,
 }
 
-// The messages that a process keeps, by receiver.
+// Returns how many messages a process keeps, by receiver.
 fn kept_of(core: &ProcCore) -> [usize; MAX_PROCESSES] {
     let mut kept = [0; MAX_PROCESSES];
     for to in 0..core.vec().n() {
@@ -51,7 +51,7 @@ fn before<S: Stable>(world: &World<S>, p: usize) -> ProcessBefore
     }
 }
 
-// The frames that an event made.
+// Returns how many frames an event made, by receiver.
 fn new_frames(
     answer: Answer,
     before: &[usize; MAX_PROCESSES],
@@ -85,7 +85,7 @@ fn label_of(bytes: &[u8]) -> Label {
     }
 }
 
-// The label of the output of a number, which a process keeps.
+// Returns the label of the output of a number, which a process keeps.
 fn label_at<S: Stable>(world: &World<S>, p: usize, number: u64) -> Label {
     if p < MAX_PROCESSES
         && let Some(core) = world.core(Pid::at(p))
@@ -153,7 +153,7 @@ fn step_of<S: Stable>(
     }
 }
 
-// The one answer.
+// Returns the one answer.
 fn only(answers: &[Answer]) -> Answer
     requires { length answers.now ≡ 1 }
     ensures { answers.now ≡ result ∷ [] }

@@ -30,7 +30,7 @@ fn is_same(one: &[Output], other: &[Output], number: usize) -> bool
     }
 }
 
-// The number of the first output in which these of two runs differ.
+// Returns the number of the first output in which these of two runs differ.
 fn first_output(one: &[Output], other: &[Output]) -> Option<usize>
     ensures some { IfSome result (λ number. DifferIn (map held_of one.now) (map held_of other.now) number) }
     ensures none { result ≡ None → PutOutSame (map held_of one.now) (map held_of other.now) }
@@ -43,7 +43,7 @@ fn first_output(one: &[Output], other: &[Output]) -> Option<usize>
     None
 }
 
-// The first place at which the outputs of so many processes differ.
+// Returns the first place at which the outputs of so many processes differ.
 fn output_place(one: &[Vec<Output>], other: &[Vec<Output>], n: usize) -> Option<TextPosition>
     requires one { length one.now ≡ n }
     requires other { length other.now ≡ n }
@@ -58,7 +58,7 @@ fn output_place(one: &[Vec<Output>], other: &[Vec<Output>], n: usize) -> Option<
     None
 }
 
-// The first place at which the ends of so many processes differ.
+// Returns the first place at which the ends of so many processes differ.
 fn end_place(one: &[Status], other: &[Status], n: usize) -> Option<TextPosition>
     requires one { length one.now ≡ n }
     requires other { length other.now ≡ n }
@@ -73,7 +73,7 @@ fn end_place(one: &[Status], other: &[Status], n: usize) -> Option<TextPosition>
     None
 }
 
-// The first place at which two runs of so many processes differ.
+// Returns the first place at which two runs of so many processes differ.
 pub(crate) fn first_difference(one: &Report, other: &Report, n: usize) -> Option<TextPosition>
     requires one { AreOf n one.now }
     requires other { AreOf n other.now }

@@ -8,8 +8,8 @@ ghost use Rattle.om_explore_command.specs.Explorations.{IsExploration};
 ghost use Rattle.om_explore_command.specs.Tallies.{text_of};
 ghost use Rattle.om_explore_command.specs.declared.exploration.Exploration.{Exploration};
 
-/// Where an exploration found all runs, the text of every run without failures in which each process ends is told, and so is what
-/// `run --check` writes of a run of threads, whatever failed in it.
+/// Proves that where an exploration found all runs, the text of every run without failures in which each process ends is told,
+/// and so is what `run --check` writes of a run of threads, whatever failed in it.
 pub fn every_text()
     ensures { (cluster : Cluster) (exploration : Exploration) (text : List ℕ) → IsExploration cluster exploration → IsTrue exploration.is_all
         → IsFailureFreeText cluster text → IsAmong (map text_of exploration.found.items) text }

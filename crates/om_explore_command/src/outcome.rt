@@ -25,7 +25,7 @@ use std::alloc::{AllocError, Global};
 pub struct Outcome {
     /// What the processes put out and how each ended or that it waits, as it is written of a run.
     pub text: String,
-    /// The same, by process.
+    /// The report of that, by process.
     pub report: Report,
     /// What happened, in order.
     pub events: Vec<Event>,

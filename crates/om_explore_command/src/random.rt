@@ -22,7 +22,7 @@ pub(crate) struct Draws {
 }
 
 impl Draws {
-    // By a seed.
+    // Makes draws by a seed.
     pub(crate) fn new(alloc: Global, seed: u64) -> Result<Draws, AllocError> {
         Ok(Draws {
             generator: Xoshiro256PlusPlus::seed_from_u64(seed),

@@ -17,7 +17,7 @@ use om_world::Event;
 use std::alloc::{AllocError, Global};
 use std::io::{Read, Write};
 
-// A script of `sim`: the lines of programs and processes, and then these events.
+// Makes a script of `sim`: the lines of programs and processes, and then these events.
 fn witness_of(
     alloc: Global,
     script: &ClusterScript,
@@ -60,7 +60,7 @@ fn write_wanted<C: ExploreContext>(
     Ok(())
 }
 
-// The text that answers a script of a process or more. Where the context wants witnesses, they are written.
+// Returns the text that answers a script of a process or more. Where the context wants witnesses, they are written.
 fn explored_text<C: ExploreContext>(
     alloc: Global,
     script: &ClusterScript,
@@ -78,7 +78,7 @@ fn explored_text<C: ExploreContext>(
     Ok(exploration_text(alloc, options.form, programs, &exploration, options.is_all)?)
 }
 
-// The text that answers a script.
+// Returns the text that answers a script.
 fn answer<C: ExploreContext>(
     alloc: Global,
     script: &ClusterScript,

@@ -30,7 +30,7 @@ pub(crate) struct Tally {
 }
 
 impl Tally {
-    // Of no run.
+    // Makes a tally of no run.
     pub(crate) fn new(alloc: Global) -> Tally
         ensures { result.found.items ≡ [] }
     {
@@ -51,7 +51,7 @@ impl Tally {
         }
     }
 
-    // One more run came to the text at a place.
+    // Counts one more run that came to the text at a place.
     fn count(&mut self, place: usize) -> Result<(), AllocError>
         requires { place < length self.old.found.items }
         ensures { OnOk result (IsCountedAgain self.old.found.items place self.new.found.items) }
@@ -64,7 +64,7 @@ impl Tally {
         Ok(())
     }
 
-    // A run came to a new text.
+    // Adds a run that came to a new text.
     fn push(&mut self, alloc: Global, outcome: Outcome) -> Result<(), AllocError>
         requires { All (λ other. other ≢ string_bytes outcome.text) (map text_of self.old.found.items) }
         ensures { OnOk result (self.new.found.items ≡ self.old.found.items ++ (record { outcome = outcome; runs = 1 }) ∷ []) }

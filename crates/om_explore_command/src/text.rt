@@ -22,7 +22,7 @@ use sha2::{Digest, Sha256};
 use std::alloc::{AllocError, Global};
 use std::fmt::Write;
 
-// The name of a process.
+// Returns the name of a process.
 fn name_of(programs: &Programs, process: usize) -> &str
     ensures { result.now ≡ name_at programs.now process }
 {
@@ -130,7 +130,7 @@ fn push_all(
     Ok(())
 }
 
-// The output of a number of a process, if there is one.
+// Returns the output of a number of a process, if there is one.
 fn output_at(report: &Report, process: usize, number: usize) -> Option<&Output>
     ensures { option_map (λ output. held_of output.now) result ≡ slice_get (slice_index_or (outputs_of report.now) process []) number }
 {
@@ -352,8 +352,8 @@ fn places_of(
     Ok(places)
 }
 
-// The text of an exploration of these programs, of which it is said whether all runs were asked for: a line for each text that runs
-// came to; one for each that differs from the first, where that is first, with bytes in a form; and how many there are.
+// Makes the text of an exploration of these programs, of which it is said whether all runs were asked for: a line for each text
+// that runs came to; one for each that differs from the first, where that is first, with bytes in a form; and how many there are.
 pub(crate) fn exploration_text(
     alloc: Global,
     form: BytesForm,

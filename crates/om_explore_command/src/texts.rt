@@ -30,7 +30,7 @@ impl Texts {
         }
     }
 
-    // The place of a text.
+    // Returns the place of a text, if it is there.
     pub(crate) fn place(&self, text: &str) -> Option<usize>
         ensures some { IfSome result (λ place. slice_get self.now place ≡ Some text.now) }
         ensures none { result ≡ None → All (λ other. other ≢ text.now) self.now }

@@ -3,6 +3,6 @@ use Rattle.std.specs.Prelude.{◌≡◌, ◌⊎◌}
 use Rattle.om_commands.specs.declared.error.CommandError.{CommandError}
 use Rattle.om_commands.specs.declared.error.CommandError.TheVariants.{NoMemory, StoreFault}
 
--- of the store, or of memory
+-- the error is of the store, or of memory
 abbrev pub IsQuiet : CommandError → Type 0
 IsQuiet error = (error ≡ StoreFault) ⊎ (error ≡ NoMemory)

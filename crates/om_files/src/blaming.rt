@@ -69,7 +69,8 @@ impl fmt::Display for Blame {
     }
 }
 
-/// The first file of so many processes that has something in it and is no store that a run can take up. The files are only read.
+/// Returns the first file of so many processes that has something in it and is no store that a run can take up. The files are
+/// only read.
 pub fn first_unusable(
     rt: &HostRuntime,
     prefix: &str,
@@ -114,7 +115,7 @@ pub fn fault_of(rt: &HostRuntime, file: &str) -> FileFault {
     }
 }
 
-// The same of a regular file, which begins with the first letter of its format once it is made.
+// Returns why a regular file cannot be used as a store. It begins with the first letter of its format once it is made.
 fn fault_of_file(rt: &HostRuntime, file: &str) -> FileFault {
     match start_of(rt, file) {
         Err(error) => return FileFault::Unreadable(error),
@@ -131,7 +132,7 @@ fn fault_of_file(rt: &HostRuntime, file: &str) -> FileFault {
     }
 }
 
-// The first byte of a file, if it has one.
+// Reads the first byte of a file, if it has one.
 fn start_of(rt: &HostRuntime, file: &str) -> io::Result<Option<u8>> {
     let mut first = [0];
     match fs::open(rt, file)?.read(&mut first)? {

@@ -11,8 +11,8 @@ use sqlite_disk::Memory;
 use std::path::PathBuf;
 use std::{fs, io};
 
-// The database that a file and its log hold. A file that is not there, or has nothing, is a `StoreFault`; where the database is
-// in use, so may be what is read of it.
+// Reads the database that a file and its log hold. A file that is not there, or has nothing, is a `StoreFault`; where the
+// database is in use, so may be what is read of it.
 pub(crate) fn copy_of(
     rt: &HostRuntime,
     file: &str,
@@ -48,7 +48,7 @@ pub fn bytes_of(rt: &HostRuntime, file: &str) -> Result<DatabaseBytes, CommandEr
     Ok(DatabaseBytes { file, log })
 }
 
-// The path of a file, with no link in it.
+// Returns the path of a file, with no link in it.
 fn place_of(rt: &HostRuntime, file: &str) -> Result<PathBuf, CommandError>
     ensures { IfErr result IsQuiet }
 {

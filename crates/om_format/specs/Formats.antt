@@ -12,7 +12,7 @@ pub data Size : Type 0 where
   four : Size
   eight : Size
 
--- that count
+-- how many bytes a number of a size has
 abbrev pub bytes_in : Size → ℕ
 bytes_in one = 1
 bytes_in two = 2

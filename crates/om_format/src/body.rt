@@ -1,3 +1,5 @@
+//! The bytes of a message or of an output.
+
 ghost use Rattle.std.specs.Prelude.{◌≡◌, ℕ, ◌≤◌, [], List, IfOk, length, nat_eq};
 ghost use Rattle.std.specs.Cmp.Lexicographic.{pointwise};
 ghost use Rattle.std.specs.Cmp.Rules.{comparing};
@@ -24,7 +26,7 @@ impl Model for Body {
 }
 
 impl Body {
-    /// The body without bytes.
+    /// Makes the body without bytes.
     pub fn empty() -> Body
         ensures { result ≡ [] }
     {
@@ -33,7 +35,7 @@ impl Body {
         }
     }
 
-    /// The body of a copy of these bytes.
+    /// Makes a body of a copy of these bytes. Refused only where memory ran out.
     pub fn from_slice(alloc: Global, bytes: &[u8]) -> Result<Body, AllocError>
         requires { length bytes.now ≤ MAX_BODY }
         ensures { IfOk result (λ body. body ≡ bytes.now) }
@@ -42,7 +44,7 @@ impl Body {
         Ok(Body { bytes })
     }
 
-    /// The bytes.
+    /// Returns the bytes of the body, at most `MAX_BODY`.
     pub fn as_slice(&self) -> &[u8]
         ensures bytes { result.now ≡ self.now }
         ensures within { length self.now ≤ MAX_BODY }
@@ -50,7 +52,7 @@ impl Body {
         self.bytes.as_slice()
     }
 
-    /// The same body, in memory of its own.
+    /// Copies the body into memory of its own. Refused only where memory ran out.
     pub fn copy(&self, alloc: Global) -> Result<Body, AllocError>
         ensures { IfOk result (λ copy. copy ≡ self.now) }
     {

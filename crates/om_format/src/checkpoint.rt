@@ -1,3 +1,5 @@
+//! Checkpoints.
+
 ghost use Rattle.std.specs.Prelude.{length, map};
 ghost use Rattle.om_format.specs.Checkpoints.{IsCheckpoint};
 ghost use Rattle.om_format.specs.Queues.{queue_record};

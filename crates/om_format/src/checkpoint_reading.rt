@@ -25,7 +25,7 @@ use crate::version::Version;
 use om_interval::{DepVec, MAX_PROCESSES, Pid};
 use om_isa::{Ext, WRITABLE_REGISTERS, is_memory_size};
 
-// The kind of a checkpoint, and its version.
+// Reads the kind of a checkpoint, and its version.
 #[tactic(auto, unfolding(crate::specs::steps::Reading::opening_at))]
 fn kind_at(bytes: &[u8]) -> Result<(Ext, Version, &[u8]), DecodeError>
     ensures exact { Tells (λ x. (kind_of x.0, version_number x.1, x.2.now)) result (opening_at is_kind is_version bytes.now) }
@@ -61,7 +61,7 @@ fn is_cluster_size(version: Version, n: usize) -> bool
     1 <= n && n <= most
 }
 
-// The number of processes, and which one this is.
+// Reads the number of processes, and which one this is.
 #[tactic(auto, unfolding(crate::specs::steps::CheckpointReading::place_at))]
 fn place_at(version: Version, bytes: &[u8]) -> Result<(usize, usize, &[u8]), DecodeError>
     ensures exact { Tells (λ x. (x.0, x.1, x.2.now)) result (place_at version bytes.now) }
@@ -82,7 +82,7 @@ fn place_at(version: Version, bytes: &[u8]) -> Result<(usize, usize, &[u8]), Dec
     Ok((n, pid, rest))
 }
 
-// The interval, how many instructions were finished, and the address of the next one.
+// Reads the interval, how many instructions were finished, and the address of the next one.
 #[tactic(auto, unfolding(crate::specs::steps::CheckpointReading::progress_at))]
 fn progress_at(bytes: &[u8]) -> Result<(u32, u64, u32, &[u8]), DecodeError>
     ensures exact { Tells (λ x. (x.0, x.1, x.2, x.3.now)) result (progress_at bytes.now) }
@@ -100,7 +100,7 @@ fn progress_at(bytes: &[u8]) -> Result<(u32, u64, u32, &[u8]), DecodeError>
     Ok((interval, count, pc, rest))
 }
 
-// The bytes of so many numbers of 32 bits.
+// Reads the bytes of so many numbers of 32 bits.
 #[tactic(auto, using(crate::proofs::Numbers::values_front), unfolding(crate::specs::steps::Reading::numbers_at))]
 fn words_at(count: usize, bytes: &[u8]) -> Result<(&[u8], &[u8]), DecodeError>
     requires { count < 2 ^ 32 }
@@ -129,7 +129,7 @@ fn read_words(front: &[u8], places: &mut [u32])
     }
 }
 
-// The registers x1 to x31.
+// Reads the registers x1 to x31.
 fn regs_of(front: &[u8]) -> [u32; WRITABLE_REGISTERS]
     requires { length front.now ≡ WRITABLE_REGISTERS * 4 }
     ensures { result ≡ values_at four WRITABLE_REGISTERS front.now }
@@ -139,7 +139,7 @@ fn regs_of(front: &[u8]) -> [u32; WRITABLE_REGISTERS]
     regs
 }
 
-// The vector of n numbers.
+// Reads the vector of n numbers.
 fn vector_of(n: usize, front: &[u8]) -> DepVec
     requires some { 1 ≤ n }
     requires within { n ≤ MAX_PROCESSES }
@@ -152,7 +152,7 @@ fn vector_of(n: usize, front: &[u8]) -> DepVec
     DepVec::from_slice(&places[..n]).unwrap()
 }
 
-// The sum of the places.
+// Returns the sum of the places.
 fn sum_of(vector: &DepVec) -> u64
     ensures { result ≡ sum vector.now }
 {
@@ -163,7 +163,7 @@ fn sum_of(vector: &DepVec) -> u64
     total
 }
 
-// The dependency vector, the numbers got and the numbers sent, of n processes.
+// Reads the dependency vector, the numbers got and the numbers sent, of n processes.
 #[tactic(auto, unfolding(crate::specs::steps::CheckpointReading::vectors_at))]
 fn vectors_at(
     n: usize,

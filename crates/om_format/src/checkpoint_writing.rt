@@ -18,7 +18,7 @@ use crate::queue::{Queue, QueueEntry};
 use om_isa::Ext;
 use std::alloc::AllocError;
 
-// The kind of a checkpoint tells which instructions its program may use.
+// Returns the kind of a checkpoint, which tells which instructions its program may use.
 fn kind_of(ext: Ext) -> u8
     ensures { result ≡ kind_of ext }
 {
@@ -66,7 +66,7 @@ pub(crate) fn put_vectors(out: &mut Vec<u8>, head: &Head) -> Result<(), AllocErr
     Ok(())
 }
 
-// A page of a memory that has this index.
+// Writes a page of a memory that has this index.
 fn put_page(out: &mut Vec<u8>, index: usize, page: &[u8]) -> Result<(), AllocError>
     requires { index < 2 ^ 16 }
     ensures { OnOk result (out.new.items ≡ out.old.items ++ page_bytes (record { index = index; bytes = page.now })) }
@@ -76,7 +76,7 @@ fn put_page(out: &mut Vec<u8>, index: usize, page: &[u8]) -> Result<(), AllocErr
     Ok(())
 }
 
-// The pages of a memory that have these indices.
+// Writes the pages of a memory that have these indices.
 fn put_pages(out: &mut Vec<u8>, memory: &[u8], indices: &[u16]) -> Result<(), AllocError>
     requires most { length memory.now ≤ MAX_MEMORY }
     requires within { All (λ index. index < page_count (length memory.now)) indices.now }
@@ -89,7 +89,7 @@ fn put_pages(out: &mut Vec<u8>, memory: &[u8], indices: &[u16]) -> Result<(), Al
     Ok(())
 }
 
-// The number of outputs, and the memory, of which the pages at these indices are kept.
+// Writes the number of outputs, and the memory, of which the pages at these indices are kept.
 pub(crate) fn put_memory(
     out: &mut Vec<u8>,
     made: u64,
@@ -121,7 +121,7 @@ fn put_entries(out: &mut Vec<u8>, entries: &[QueueEntry]) -> Result<(), AllocErr
     Ok(())
 }
 
-// The number of a message has four bytes.
+// Writes a queue of messages, of which the number of the first has four bytes.
 fn put_messages(out: &mut Vec<u8>, queue: &Queue) -> Result<(), AllocError>
     ensures { OnOk result (out.new.items ≡ out.old.items ++ message_bytes (queue_record queue.now)) }
 {
@@ -148,8 +148,8 @@ pub(crate) fn put_outputs(out: &mut Vec<u8>, queue: &Queue) -> Result<(), AllocE
     Ok(())
 }
 
-// Room for all bytes of a checkpoint of which so many pages are kept, if that is no more than there are numbers: it is made
-// at once, and the memory need not be moved.
+// Returns the room, in bytes, for all of a checkpoint of which so many pages are kept, or the greatest number where that is
+// more: it is made at once, and the memory need not be moved.
 pub(crate) fn room_for(checkpoint: &Checkpoint, kept: usize) -> usize {
     let mut room = room_for_queue(&checkpoint.outputs);
     for queue in &checkpoint.kept {
@@ -159,7 +159,7 @@ pub(crate) fn room_for(checkpoint: &Checkpoint, kept: usize) -> usize {
         .saturating_add((PAGE + 2).saturating_mul(kept))
 }
 
-// No less than a queue has.
+// Returns no less than a queue has bytes.
 fn room_for_queue(queue: &Queue) -> usize {
     let mut room: usize = 8;
     for entry in &queue.entries {

@@ -30,7 +30,7 @@ use crate::receipt::Receipt;
 use om_interval::Pid;
 use std::alloc::Global;
 
-// The receiver and the sender, behind the kind and the version.
+// Reads the receiver and the sender, behind the kind and the version.
 #[tactic(auto, unfolding(crate::specs::steps::Reading::ends_at, crate::specs::steps::Reading::opening_at))]
 fn ends_at(bytes: &[u8]) -> Result<(usize, usize, &[u8]), DecodeError>
     ensures exact { Tells (λ x. (x.0, x.1, x.2.now)) result (ends_at bytes.now) }
@@ -50,7 +50,7 @@ fn ends_at(bytes: &[u8]) -> Result<(usize, usize, &[u8]), DecodeError>
     Ok((to, from, rest))
 }
 
-// The interval of the receiver, that of the sender, and the number of the message.
+// Reads the interval of the receiver, that of the sender, and the number of the message.
 #[tactic(auto, unfolding(crate::specs::steps::Reading::order_at))]
 fn order_at(bytes: &[u8]) -> Result<(u32, u32, u32, &[u8]), DecodeError>
     ensures exact { Tells (λ x. (x.0, x.1, x.2, x.3.now)) result (order_at bytes.now) }
@@ -90,8 +90,8 @@ fn receipt_at(alloc: Global, bytes: &[u8]) -> Result<Receipt, DecodeError>
     })
 }
 
-/// The receipt that the bytes spell, all of the bytes; else the first fault of the bytes from the left. `Memory` where
-/// there was none for the body, and every field is whole and allowed.
+/// Reads the receipt that the bytes spell, all of the bytes; else returns the first fault of the bytes from the left.
+/// `Memory` where there was none for the body, and every field is whole and allowed.
 pub fn decode_receipt(alloc: Global, bytes: &[u8]) -> Result<Receipt, DecodeError>
     ensures found { IfOk result (λ r. SpellsReceipt (receipt_record r) bytes.now) }
     ensures only { (r : ReceiptRecord) → SpellsReceipt r bytes.now → Gives receipt_record result (Ok r) }
@@ -137,9 +137,9 @@ fn rest_at(alloc: Global, front: &Front, bytes: &[u8]) -> Result<Rest, DecodeErr
     })
 }
 
-/// The checkpoint that the bytes spell in one of the versions, all of the bytes; else the first fault of the bytes from the
-/// left. `Memory` where there was none for the memory or a queue, and the fields before the bytes of the memory are whole and
-/// allowed.
+/// Reads the checkpoint that the bytes spell in one of the versions, all of the bytes; else returns the first fault of the
+/// bytes from the left. `Memory` where there was none for the memory or a queue, and the fields before the bytes of the
+/// memory are whole and allowed.
 pub fn decode_checkpoint(alloc: Global, bytes: &[u8]) -> Result<Checkpoint, DecodeError>
     ensures found { IfOk result (λ c. IsSpelled (checkpoint_record c) bytes.now) }
     ensures only { (version : Version) (r : CheckpointRecord) → SpellsCheckpoint version r bytes.now
@@ -156,7 +156,7 @@ pub fn decode_checkpoint(alloc: Global, bytes: &[u8]) -> Result<Checkpoint, Deco
     }
 }
 
-// The checkpoint of these parts.
+// Makes the checkpoint of these parts.
 fn fitted(front: Front, rest: Rest) -> Checkpoint
     requires { IsCheckpoint (checkpoint_of front rest.memory (map queue_record rest.kept.items) (queue_record rest.outputs)) }
     ensures { checkpoint_record result

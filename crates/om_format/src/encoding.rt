@@ -37,7 +37,7 @@ fn receipt_bytes(alloc: Global, receipt: &Receipt) -> Result<Vec<u8>, AllocError
     Ok(out)
 }
 
-/// The bytes that spell a receipt.
+/// Returns the bytes that spell a receipt.
 pub fn encode_receipt(alloc: Global, receipt: &Receipt) -> Result<Vec<u8>, AllocError>
     ensures { IfOk result (λ v. SpellsReceipt (receipt_record receipt.now) v.items) }
 {
@@ -61,7 +61,7 @@ fn checkpoint_bytes(alloc: Global, checkpoint: &Checkpoint) -> Result<Vec<u8>, A
     Ok(out)
 }
 
-/// The bytes that spell a checkpoint in version 2. What is kept of its memory is copied once.
+/// Returns the bytes that spell a checkpoint in version 2. What is kept of its memory is copied once.
 pub fn encode_checkpoint(alloc: Global, checkpoint: &Checkpoint) -> Result<Vec<u8>, AllocError>
     ensures { IfOk result (λ v. SpellsCheckpoint V2 (checkpoint_record checkpoint.now) v.items) }
 {

@@ -1,3 +1,5 @@
+//! What a checkpoint says before its memory.
+
 use om_interval::{DepVec, Pid};
 use om_isa::{Ext, WRITABLE_REGISTERS};
 

@@ -1,3 +1,5 @@
+//! The bytes of a machine's memory.
+
 ghost use Rattle.std.specs.Prelude.{◌≡◌, ◌↔◌, ℕ, List, length, vec_len, true};
 ghost use Rattle.om_isa.specs.Memory.{is_memory_size};
 
@@ -18,7 +20,7 @@ impl Model for MemoryBytes {
 }
 
 impl MemoryBytes {
-    /// The memory of these bytes.
+    /// Makes a memory of these bytes.
     pub fn from_vec(bytes: Vec<u8>) -> MemoryBytes
         requires { is_memory_size (vec_len bytes) ≡ true }
         ensures { result ≡ bytes.items }
@@ -26,7 +28,7 @@ impl MemoryBytes {
         MemoryBytes { bytes }
     }
 
-    /// The bytes, given back.
+    /// Gives the bytes back.
     pub fn into_vec(self) -> Vec<u8>
         ensures bytes { result.items ≡ self }
         ensures size { is_memory_size (vec_len result) ≡ true }
@@ -34,7 +36,7 @@ impl MemoryBytes {
         self.bytes
     }
 
-    /// The bytes.
+    /// Returns the bytes of the memory.
     pub fn as_slice(&self) -> &[u8]
         ensures bytes { result.now ≡ self.now }
         ensures size { is_memory_size (length self.now) ≡ true }

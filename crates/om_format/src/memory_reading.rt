@@ -17,7 +17,7 @@ use crate::reading::{Taken, bytes_at, u16_at};
 use crate::version::Version;
 use std::alloc::Global;
 
-// The index of a page of a memory of this size, from `low` on, its bytes, and those after it.
+// Reads the index of a page of a memory of this size, from `low` on, its bytes, and those after it.
 #[tactic(auto, unfolding(crate::specs::steps::CheckpointReading::next_page_at))]
 fn page_at(
     size: usize,
@@ -46,7 +46,7 @@ fn page_at(
     Ok((index, page, rest))
 }
 
-// A memory of which so many pages are kept: the others are zeros.
+// Reads a memory of which so many pages are kept: the others are zeros.
 fn pages_at<'a>(
     alloc: Global,
     size: usize,
@@ -81,7 +81,7 @@ fn pages_at<'a>(
     })
 }
 
-// A memory of this size, of which the pages that are not all zeros are kept.
+// Reads a memory of this size, of which the pages that are not all zeros are kept.
 #[tactic(auto, unfolding(crate::specs::steps::CheckpointReading::memory_at, crate::specs::steps::CheckpointReading::before_memory_at))]
 fn counted_at<'a>(
     alloc: Global,
@@ -106,7 +106,7 @@ fn counted_at<'a>(
     pages_at(alloc, size, count, offset + 2, rest)
 }
 
-// A memory of this size, in the form of this version.
+// Reads a memory of this size, in the form of this version.
 #[tactic(auto, unfolding(crate::specs::steps::CheckpointReading::memory_at, crate::specs::steps::CheckpointReading::before_memory_at))]
 pub(crate) fn memory_at<'a>(
     alloc: Global,

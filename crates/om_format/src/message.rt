@@ -1,3 +1,5 @@
+//! Messages on their way.
+
 ghost use Rattle.std.specs.Prelude.{◌≡◌, IfOk};
 
 use crate::body::Body;
@@ -17,7 +19,7 @@ pub struct Message {
 }
 
 impl Message {
-    /// The same message, in memory of its own.
+    /// Copies the message into memory of its own. Refused only where memory ran out.
     pub fn copy(&self, alloc: Global) -> Result<Message, AllocError>
         ensures { IfOk result (λ copy. copy ≡ self.now) }
     {

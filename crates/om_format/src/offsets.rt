@@ -20,7 +20,7 @@ pub const PC: usize = COUNT + 8;
 /// The dependency vector, behind the registers.
 pub const VECTOR: usize = PC + 4 + 4 * WRITABLE_REGISTERS;
 
-// The numbers of messages got.
+// Returns the offset of the numbers of messages got.
 pub(crate) fn got_offset(n: usize) -> usize
     requires { got_offset n < 2 ^ 64 }
     ensures { result ≡ got_offset n }
@@ -28,7 +28,7 @@ pub(crate) fn got_offset(n: usize) -> usize
     VECTOR + 4 * n
 }
 
-// The number of outputs made, behind the numbers of messages got and of messages sent.
+// Returns the offset of the number of outputs made, behind the numbers of messages got and of messages sent.
 pub(crate) fn made_offset(n: usize) -> usize
     requires { made_offset n < 2 ^ 64 }
     ensures { result ≡ made_offset n }
@@ -36,7 +36,7 @@ pub(crate) fn made_offset(n: usize) -> usize
     got_offset(n) + 8 * n
 }
 
-// The size of the memory.
+// Returns the offset of the size of the memory.
 pub(crate) fn size_offset(n: usize) -> usize
     requires { size_offset n < 2 ^ 64 }
     ensures { result ≡ size_offset n }
@@ -44,7 +44,7 @@ pub(crate) fn size_offset(n: usize) -> usize
     made_offset(n) + 8
 }
 
-// The memory.
+// Returns the offset of the memory.
 pub(crate) fn memory_offset(n: usize) -> usize
     requires { memory_offset n < 2 ^ 64 }
     ensures { result ≡ memory_offset n }

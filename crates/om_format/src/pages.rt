@@ -24,7 +24,7 @@ pub(crate) fn page_size(size: usize, index: usize) -> usize
     PAGE.min(size - index * PAGE)
 }
 
-// The bytes of the page of that index.
+// Returns the bytes of the page of that index.
 pub(crate) fn page_of(memory: &[u8], index: usize) -> &[u8]
     requires most { length memory.now ≤ MAX_MEMORY }
     requires within { index < page_count (length memory.now) }
@@ -37,7 +37,7 @@ pub(crate) fn page_of(memory: &[u8], index: usize) -> &[u8]
 // How many bytes are looked at at once.
 const WORD: usize = 16;
 
-// Not all bytes are zero.
+// Returns whether any byte is other than zero.
 pub(crate) fn is_kept(bytes: &[u8]) -> bool
     ensures { result ≡ is_kept bytes.now }
 {
@@ -51,14 +51,14 @@ pub(crate) fn is_kept(bytes: &[u8]) -> bool
     is_any_set(rest)
 }
 
-// Not all bytes of a word are zero.
+// Returns whether any byte of a word is other than zero.
 fn is_set(word: &[u8; WORD]) -> bool
     ensures { result ≡ is_kept word.now }
 {
     u128::from_le_bytes(*word) != 0
 }
 
-// Not all bytes are zero, of those that are no word.
+// Returns whether any byte is other than zero, of those that are no word.
 fn is_any_set(bytes: &[u8]) -> bool
     ensures { result ≡ is_kept bytes.now }
 {

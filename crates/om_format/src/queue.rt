@@ -1,3 +1,5 @@
+//! The messages or outputs that are kept, as a checkpoint holds them.
+
 ghost use Rattle.std.specs.Prelude.{◌≡◌, IfOk};
 ghost use Rattle.om_format.specs.Queues.{queue_record};
 
@@ -13,7 +15,7 @@ pub struct QueueEntry {
 }
 
 impl QueueEntry {
-    /// The same entry, in memory of its own.
+    /// Copies the entry into memory of its own. Refused only where memory ran out.
     pub fn copy(&self, alloc: Global) -> Result<QueueEntry, AllocError>
         ensures { IfOk result (λ copy. copy ≡ self.now) }
     {
@@ -34,7 +36,7 @@ pub struct Queue {
 }
 
 impl Queue {
-    /// The same queue, in memory of its own.
+    /// Copies the queue into memory of its own. Refused only where memory ran out.
     pub fn copy(&self, alloc: Global) -> Result<Queue, AllocError>
         ensures { IfOk result (λ copy. queue_record copy ≡ queue_record self.now) }
     {

@@ -12,7 +12,7 @@ use crate::queue::{Queue, QueueEntry};
 use crate::reading::{Taken, body_at, u32_at, u64_at};
 use std::alloc::Global;
 
-// An entry from the interval `low` on, and not newer than the checkpoint.
+// Reads an entry from the interval `low` on, and not newer than the checkpoint.
 #[tactic(auto, unfolding(crate::specs::steps::CheckpointReading::entry_at))]
 fn entry_at<'a>(
     alloc: Global,
@@ -38,7 +38,7 @@ fn entry_at<'a>(
     })
 }
 
-// So many entries, as long as there are bytes.
+// Reads `count` entries, as long as there are bytes.
 fn entries_at<'a>(
     alloc: Global,
     newest: u32,
@@ -69,7 +69,7 @@ fn entries_at<'a>(
     })
 }
 
-// The kept messages to one process, up to the number `stop`.
+// Reads the kept messages to one process, up to the number `stop`.
 #[tactic(auto, unfolding(crate::specs::steps::CheckpointReading::queue_at))]
 fn messages_at<'a>(
     alloc: Global,
@@ -98,7 +98,7 @@ fn messages_at<'a>(
     })
 }
 
-// The kept outputs, up to the number `stop`.
+// Reads the kept outputs, up to the number `stop`.
 #[tactic(auto, unfolding(crate::specs::steps::CheckpointReading::queue_at))]
 pub(crate) fn outputs_at<'a>(
     alloc: Global,
@@ -126,7 +126,7 @@ pub(crate) fn outputs_at<'a>(
     })
 }
 
-// The kept messages to each process, up to the numbers `stops`.
+// Reads the kept messages to each process, up to the numbers `stops`.
 pub(crate) fn queues_at<'a>(
     alloc: Global,
     newest: u32,

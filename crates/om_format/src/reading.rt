@@ -64,7 +64,7 @@ pub(crate) fn u64_at(bytes: &[u8]) -> Result<(u64, &[u8]), DecodeError>
     Ok((number, rest))
 }
 
-// The number of a process, which stands at the offset.
+// Reads the number of a process, which stands at the offset.
 #[tactic(auto, unfolding(crate::specs::steps::Reading::pid_at))]
 pub(crate) fn pid_at(offset: usize, bytes: &[u8]) -> Result<(usize, &[u8]), DecodeError>
     ensures exact { Tells (λ x. (x.0, x.1.now)) result (pid_at offset bytes.now) }
@@ -79,7 +79,7 @@ pub(crate) fn pid_at(offset: usize, bytes: &[u8]) -> Result<(usize, &[u8]), Deco
     }
 }
 
-// So many bytes.
+// Reads `count` bytes. Refused with `Short` where there are fewer.
 #[tactic(auto, unfolding(crate::specs::steps::Reading::bytes_at))]
 pub(crate) fn bytes_at(count: usize, bytes: &[u8]) -> Result<(&[u8], &[u8]), DecodeError>
     ensures exact { Tells (λ x. (x.0.now, x.1.now)) result (bytes_at count bytes.now) }
@@ -92,7 +92,7 @@ pub(crate) fn bytes_at(count: usize, bytes: &[u8]) -> Result<(&[u8], &[u8]), Dec
     Ok(bytes.split_at(count))
 }
 
-// The bytes of a body; its length stands at the offset.
+// Reads the bytes of a body; its length stands at the offset.
 #[tactic(auto, unfolding(crate::specs::steps::Reading::counted_at))]
 pub(crate) fn body_at(offset: usize, bytes: &[u8]) -> Result<(&[u8], &[u8]), DecodeError>
     ensures exact { Tells (λ x. (x.0.now, x.1.now)) result (body_at offset bytes.now) }
@@ -107,7 +107,7 @@ pub(crate) fn body_at(offset: usize, bytes: &[u8]) -> Result<(&[u8], &[u8]), Dec
     bytes_at(len, rest)
 }
 
-// The end of a record.
+// Reads the end of a record. Refused with `Trailing` where bytes are left.
 #[tactic(auto, unfolding(crate::specs::steps::Reading::end_at))]
 pub(crate) fn end_at(bytes: &[u8]) -> Result<(), DecodeError>
     ensures { Tells (λ _. tt) result (end_at bytes.now) }

@@ -1,3 +1,5 @@
+//! Receipts.
+
 ghost use Rattle.std.specs.Prelude.{◌<◌};
 
 use crate::body::Body;

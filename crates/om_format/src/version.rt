@@ -1,3 +1,5 @@
+//! The versions of a checkpoint.
+
 /// The versions of a checkpoint. Each is read, and the last one is written.
 #[derive(Clone, Copy, Debug, PartialEq, Eq)]
 pub enum Version {

@@ -41,7 +41,7 @@ pub fn image<I: Read, W: Write>(
     written(writer, &line)
 }
 
-// The bytes of an image, and one more at most than a memory may have.
+// Reads the bytes of an image, and one more at most than a memory may have.
 fn read_image<I: Read>(alloc: Global, reader: &mut I) -> Result<Vec<u8>, ReadError>
     ensures { IfSome (I.remaining reader.old) (λ bytes. IfOk result (λ image. image.items ≡ take most_read bytes)) }
 {

@@ -1,3 +1,5 @@
+//! Why no line of a program is written.
+
 ghost use Rattle.std.specs.Prelude.{◌≡◌};
 ghost use Rattle.om_text.specs.declared.error.BuildError.TheVariants as building;
 ghost use Rattle.om_text.specs.declared.text.ReadError.TheVariants as reading;

@@ -6,12 +6,12 @@ ghost use Rattle.om_image.specs.Image.{word_text};
 ghost use Rattle.om_text.specs.Reading.{all_read};
 ghost use Rattle.om_text.specs.declared.error.LineError.TheVariants.{BadWord};
 
-/// A word's eight digits read back as the word.
+/// Proves that a word's eight digits read back as the word.
 pub fn word_is_read_back()
     ensures { (word : ℕ) → word < 2 ^ 32 → hex_word (word_text word) ≡ Some word }
 {}
 
-/// The words of a line read back as the words.
+/// Proves that the words of a line read back as the words.
 pub fn words_are_read_back()
     ensures { (words : List ℕ) → All (λ word. word < 2 ^ 32) words → all_read hex_word BadWord (map word_text words) ≡ Ok words }
 {}

@@ -12,7 +12,7 @@ use om_scripts::Programs;
 use om_text::{BuildError, LineError};
 use std::alloc::{AllocError, Global};
 
-// The line of the program whose memory begins with the bytes.
+// Makes the line of the program whose memory begins with the bytes.
 pub(crate) fn line_of(
     alloc: Global,
     ext: Ext,
@@ -56,7 +56,7 @@ fn check(
     programs.add_program(alloc, ext, &words)
 }
 
-// The words of the line behind its first.
+// Returns the words of the line behind its first.
 fn line_words<'a>(
     alloc: Global,
     name: &'a [u8],
@@ -74,7 +74,7 @@ fn line_words<'a>(
     Ok(words)
 }
 
-// The words, each behind a space but the first, and the end of the line.
+// Joins the words, each behind a space but the first, and the end of the line.
 fn joined(
     alloc: Global,
     ext: Ext,
@@ -104,7 +104,7 @@ fn add(line: &mut Vec<u8>, word: &[u8]) -> Result<(), AllocError>
     line.extend_from_slice(word)
 }
 
-// The first word of the line.
+// Returns the first word of the line.
 fn keyword(ext: Ext) -> &'static str
     ensures { result.now ≡ keyword ext }
 {

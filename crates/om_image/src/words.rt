@@ -10,7 +10,7 @@ use std::alloc::{AllocError, Global};
 // How many bytes a word has.
 const WORD_BYTES: usize = 4;
 
-// The words of the bytes, the lowest byte of each first; the last is padded with zeros.
+// Returns the words of the bytes, the lowest byte of each first; the last is padded with zeros.
 #[tactic(auto, using(crate::proofs::Whole::words_of_padded))]
 pub(crate) fn words_of(alloc: Global, bytes: &[u8]) -> Result<Vec<u32>, AllocError>
     ensures words { IfOk result (λ words. AreWordsOf bytes.now words.items) }
@@ -20,7 +20,7 @@ pub(crate) fn words_of(alloc: Global, bytes: &[u8]) -> Result<Vec<u32>, AllocErr
     whole_words(alloc, &padded)
 }
 
-// The bytes, and zeros up to a whole number of words.
+// Returns the bytes, and zeros up to a whole number of words.
 fn padded(alloc: Global, bytes: &[u8]) -> Result<Vec<u8>, AllocError>
     ensures { IfOk result (λ padded. IsPadded bytes.now padded.items) }
 {
@@ -32,7 +32,7 @@ fn padded(alloc: Global, bytes: &[u8]) -> Result<Vec<u8>, AllocError>
     Ok(padded)
 }
 
-// The words of so many bytes as whole words have.
+// Returns the words of so many bytes as whole words have.
 #[tactic(auto, using(crate::proofs::Whole::words_more))]
 fn whole_words(alloc: Global, bytes: &[u8]) -> Result<Vec<u32>, AllocError>
     ensures words { IfOk result (λ words. AreWholeWordsOf bytes.now words.items) }
@@ -45,7 +45,7 @@ fn whole_words(alloc: Global, bytes: &[u8]) -> Result<Vec<u32>, AllocError>
     Ok(words)
 }
 
-// The word of four bytes.
+// Returns the word of four bytes.
 fn word_at(bytes: &[u8], at: usize) -> u32
     requires { at + 4 ≤ length bytes.now }
     ensures { to_le_bytes w32 result ≡ slice_range bytes.now at (at + 4) }
@@ -53,7 +53,7 @@ fn word_at(bytes: &[u8], at: usize) -> u32
     u32::from_le_bytes([bytes[at], bytes[at + 1], bytes[at + 2], bytes[at + 3]])
 }
 
-// The words as text.
+// Returns the words as text.
 pub(crate) fn texts_of(alloc: Global, words: &[u32]) -> Result<Vec<String>, AllocError>
     ensures { IfOk result (λ texts. map string_bytes texts.items ≡ map word_text words.now) }
 {

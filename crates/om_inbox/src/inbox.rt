@@ -36,7 +36,7 @@ pub struct Inbox {
 }
 
 impl Inbox {
-    /// Makes one with nothing in it.
+    /// Makes an inbox with nothing in it.
     pub fn new(alloc: Global) -> Inbox {
         Inbox {
             alloc,
@@ -93,7 +93,7 @@ impl Inbox {
         unreachable!()
     }
 
-    // The same, where there is room or nobody takes any more. Where memory runs out the reading ends.
+    // Puts bytes as `put` does, but does not wait: `None` where there is no room yet. Where memory runs out the reading ends.
     fn try_put<W: Wait>(&self, rt: &W, bytes: &[u8]) -> Option<bool> {
         let mut guard = self.got.lock(rt);
         let got = &mut *guard;
@@ -123,7 +123,7 @@ impl Inbox {
         unreachable!()
     }
 
-    // The same, where something is there or the reading has ended.
+    // Takes what there is as `take` does, but does not wait: `None` where nothing is there and the reading has not ended.
     fn try_take<W: Wait>(&self, rt: &W) -> Option<io::Result<Vec<u8>>> {
         let mut guard = self.got.lock(rt);
         let got = &mut *guard;

@@ -47,7 +47,7 @@ pub record IsRunBackAt (olds news : List Inferior) (place : ℕ) (stop : Stop) :
   pub is : slice_get news place ≡ Some new
   pub back : IsRunBack old.debugger new.debugger stop
 
--- or by a step
+-- the process at a place has gone back by a step
 pub record IsStepBackAt (olds news : List Inferior) (place : ℕ) (stop : Stop) : Type 0 where
   pub old : Inferior
   pub new : Inferior

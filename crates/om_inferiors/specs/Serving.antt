@@ -45,7 +45,7 @@ pub record IsOutcome (packet : List ℕ) (old : DebugState) (outcome : Result Re
   pub moved : IsMoved old.timeline new.timeline
   pub refused : OnErr outcome (new ≡ with_timeline old new.timeline)
 
--- of a packet about all processes
+-- what became of a packet about all processes, and what it leaves
 pub record IsGroupOutcome (packet : List ℕ) (old : Inferiors) (outcome : Result Reply PlayFault) (new : Inferiors) : Type 0 where
   pub answered : IfOk outcome (λ told. IsGroupAnswered (group_request_of packet) old told new)
 

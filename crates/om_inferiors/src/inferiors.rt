@@ -71,7 +71,7 @@ fn thread_text(alloc: Global, member: &Inferior) -> Result<String, AllocError>
     Ok(text)
 }
 
-// The list of the threads, one of each process.
+// Returns the list of the threads, one of each process.
 fn threads_text(alloc: Global, members: &[Inferior]) -> Result<String, AllocError>
     ensures { IfOk result (λ text. string_bytes text ≡ threads_text members.now) }
 {
@@ -139,7 +139,7 @@ impl Inferiors {
         }
     }
 
-    // The answer to what one process is asked too.
+    // Returns the answer to what one process is asked too.
     fn answer_other<R: Wish>(
         &mut self,
         alloc: Global,
@@ -172,7 +172,7 @@ impl Inferiors {
         Ok(Reply::Text(group_stop_text(alloc, self.focus, Stop::Paused)?.into_bytes()))
     }
 
-    // The number of the one that is meant.
+    // Returns the number of the process that is meant.
     fn number_of(&self, whom: Whom) -> u32
         ensures { result ≡ number_of self.now whom }
     {
@@ -196,7 +196,7 @@ impl Inferiors {
 
 // Who goes on, and back, and what is set.
 impl Inferiors {
-    // The text of a stop, and the one that is told is meant from now on.
+    // Returns the text of a stop; from now on the process that stopped is meant.
     fn stopped(&mut self, alloc: Global, stopped: Stopped) -> Result<Reply, AllocError>
         requires { stopped.place < length self.old.members.items }
         ensures told { IfOk result (λ told. IsTold self.old stopped.place stopped.stop told self.new) }
@@ -372,7 +372,7 @@ impl Inferiors {
 
 // What is only asked.
 impl Inferiors {
-    // The answer to what is only asked: for all else nothing.
+    // Returns the answer to what is only asked: for all else nothing.
     fn asked(&self, alloc: Global, request: Request) -> Result<Vec<u8>, AllocError>
         ensures { IfOk result (λ text. text.items ≡ asked_group self.now (GroupRequest.Other request)) }
     {
@@ -417,7 +417,7 @@ impl Inferiors {
         Ok(memory_text(alloc, machine, address, length)?.into_bytes())
     }
 
-    // A piece of the name of a process's file.
+    // Returns a piece of the name of a process's file.
     fn file(
         &self,
         alloc: Global,

@@ -33,7 +33,7 @@ fn all_to_event(all: &mut [Inferior], event: usize) -> Result<(), PlayFault>
     Ok(())
 }
 
-// A text for the user, whose bytes are told in hexadecimal.
+// Makes a text for the user, whose bytes are told in hexadecimal.
 fn said(alloc: Global, text: &str) -> Result<Reply, AllocError>
     ensures said { IfOk result (λ told. IsSaid text.now told) }
     ensures last { IfOk result (λ told. is_last told ≡ false) }
@@ -108,7 +108,7 @@ impl Inferiors {
         all_to_event(&mut self.members, event)
     }
 
-    // Where time and the processes stand, as it is told.
+    // Returns where time and the processes stand, as it is told.
     fn said_where(&self, alloc: Global) -> Result<Reply, PlayFault>
         ensures said { IfOk result (λ told. IsSaid (group_where_text self.now.members.items) told) }
         ensures last { IfOk result (λ told. is_last told ≡ false) }

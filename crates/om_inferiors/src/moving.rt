@@ -24,7 +24,7 @@ pub(crate) struct Stopped {
     pub(crate) stop: Stop,
 }
 
-// The event before which the one stands that is furthest back.
+// Returns the event before which the process stands that is furthest back.
 fn first_event(all: &[Inferior]) -> usize {
     let mut first = usize::MAX;
     for inferior in all {

@@ -117,7 +117,7 @@ fn flush<W: Write>(writer: &mut W) -> Result<(), ServeError>
     }
 }
 
-// The answer to a packet.
+// Returns the answer to a packet.
 fn outcome_text(alloc: Global, outcome: Result<Reply, PlayFault>) -> Result<Vec<u8>, AllocError>
     ensures { IfOk result (λ text. text.items ≡ outcome_text outcome) }
 {

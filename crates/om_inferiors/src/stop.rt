@@ -9,7 +9,8 @@ use om_machine::Cause;
 use om_requests::{Watch, Watched};
 use std::alloc::{AllocError, Global};
 
-// SIGSEGV for an address outside memory, SIGBUS for one that is not aligned, SIGTRAP for EBREAK, and SIGILL for the rest.
+// Returns the signal of a trap: SIGSEGV for an address outside memory, SIGBUS for one that is not aligned, SIGTRAP for
+// EBREAK, and SIGILL for the rest.
 fn trap_signal(cause: Cause) -> &'static str
     ensures { result.now ≡ trap_signal cause }
 {
@@ -26,7 +27,7 @@ fn trap_signal(cause: Cause) -> &'static str
     }
 }
 
-// SIGPWR for a failure, SIGINT for a pause, the signal of a trap, and SIGTRAP for all else.
+// Returns the signal of a stop: SIGPWR for a failure, SIGINT for a pause, the signal of a trap, and SIGTRAP for all else.
 fn signal_text(stop: Stop) -> &'static str
     ensures { result.now ≡ signal_text stop }
 {

@@ -1,3 +1,5 @@
+//! What a process need not keep any longer.
+
 use crate::dep_vec::DepVec;
 
 /// What a process need not keep any longer.

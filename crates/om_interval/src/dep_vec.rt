@@ -1,3 +1,5 @@
+//! Vectors of one number for each process.
+
 ghost use Rattle.std.specs.Prelude.{◌≡◌, ℕ, ◌+◌, ◌-◌, ◌^◌, ◌<◌, ◌≤◌, ◌↔◌, ◌++◌, All, List, length, take, replicate, max, slice_index, slice_set, nat_eq, IsTrue, IsSome, IfSome};
 ghost use Rattle.std.specs.Cmp.Lexicographic.{pointwise};
 ghost use Rattle.std.specs.Cmp.Rules.{comparing};
@@ -34,7 +36,7 @@ impl Model for DepVec {
 }
 
 impl DepVec {
-    /// The vector of `n` zeros, or `None` where no cluster has `n` processes.
+    /// Makes the vector of `n` zeros, or `None` where no cluster has `n` processes.
     pub fn zeros(n: usize) -> Option<DepVec>
         ensures in_range { IsSome result ↔ ((1 ≤ n) × (n ≤ MAX_PROCESSES)) }
         ensures zeros { IfSome result (λ vector. vector ≡ replicate n 0) }
@@ -49,7 +51,7 @@ impl DepVec {
         }
     }
 
-    /// The vector of these numbers, or `None` where no cluster has so many processes.
+    /// Makes the vector of these numbers, or `None` where no cluster has so many processes.
     pub fn from_slice(numbers: &[u32]) -> Option<DepVec>
         ensures in_range { IsSome result ↔ ((1 ≤ length numbers.now) × (length numbers.now ≤ MAX_PROCESSES)) }
         ensures numbers { IfSome result (λ vector. vector ≡ numbers.now) }
@@ -63,7 +65,7 @@ impl DepVec {
         Some(DepVec { count, places })
     }
 
-    /// The vector of these words.
+    /// Makes the vector of these words.
     pub fn from_words(words: &[u64]) -> DepVec
         requires some { 1 ≤ length words.now }
         requires within { length words.now ≤ MAX_PROCESSES }
@@ -76,7 +78,7 @@ impl DepVec {
         DepVec { count, places }
     }
 
-    /// The numbers as words, by process, and zeros up to the limit of processes.
+    /// Returns the numbers as words, by process, and zeros up to the limit of processes.
     pub fn to_words(&self) -> [u64; MAX_PROCESSES]
         ensures words { result ≡ words_of self.now }
         ensures fit { All (λ word. word < 2 ^ 32) result }
@@ -86,7 +88,7 @@ impl DepVec {
         words
     }
 
-    /// The number of processes, from 1 to the limit.
+    /// Returns the number of processes, from 1 to the limit.
     pub fn n(&self) -> usize
         ensures places { result ≡ length self.now }
         ensures some { 1 ≤ result }
@@ -95,7 +97,7 @@ impl DepVec {
         self.as_slice().len()
     }
 
-    /// The numbers, by process.
+    /// Returns the numbers, by process.
     pub fn as_slice(&self) -> &[u32]
         ensures numbers { result.now ≡ self.now }
         ensures some { 1 ≤ length self.now }
@@ -104,7 +106,7 @@ impl DepVec {
         &self.places[..self.count]
     }
 
-    /// The number of one process.
+    /// Returns the number of one process.
     pub fn get(&self, pid: Pid) -> u32
         requires { pid < length self.now }
         ensures { result ≡ slice_index self.now pid }

@@ -1,3 +1,5 @@
+//! The numbers of processes, and their limit.
+
 ghost use Rattle.std.specs.Prelude.{◌≡◌, ℕ, ◌<◌, ◌↔◌, IsSome, IfSome};
 ghost use Rattle.om_interval.specs.declared.pid.TheConstants.{MAX_PROCESSES};
 
@@ -9,7 +11,8 @@ pub const MAX_PROCESSES: usize = 16;
 /// The number of a process: from 0, below the limit of processes.
 #[derive(Clone, Copy, Debug, PartialEq, Eq, Hash, PartialOrd, Ord)]
 pub struct Pid {
-    index: usize,
+    // A byte, since each message has two of them.
+    index: u8,
 }
 
 impl Model for Pid {
@@ -23,32 +26,32 @@ impl Model for Pid {
 }
 
 impl Pid {
-    /// The process of that number, or `None` where no cluster has so many processes.
+    /// Returns the process of that number, or `None` where no cluster has so many processes.
     pub fn new(number: u32) -> Option<Pid>
         ensures in_range { IsSome result ↔ (number < MAX_PROCESSES) }
         ensures number { IfSome result (λ pid. pid ≡ number) }
     {
         let index = number as usize;
         if index < MAX_PROCESSES {
-            Some(Pid { index })
+            Some(Pid { index: index as u8 })
         } else {
             None
         }
     }
 
-    /// The process at a place of a vector.
+    /// Returns the process at a place of a vector.
     pub fn at(index: usize) -> Pid
         requires { index < MAX_PROCESSES }
         ensures { result ≡ index }
     {
-        Self { index }
+        Self { index: index as u8 }
     }
 
-    /// The place of this process in vectors.
+    /// Returns the place of this process in vectors.
     pub fn index(self) -> usize
         ensures place { result ≡ self }
         ensures in_range { result < MAX_PROCESSES }
     {
-        self.index
+        self.index as usize
     }
 }

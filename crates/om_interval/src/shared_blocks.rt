@@ -1,3 +1,5 @@
+//! The starts of one process, in blocks that copies share.
+
 ghost use Rattle.std.specs.Prelude.{◌≡◌, ◌<◌, ◌≤◌, ◌^◌, [], ◌∷◌, ◌++◌, length, slice_get, IfOk, OnOk, OnErr};
 ghost use Rattle.om_interval.specs.steps.Lines.{blocks_in};
 ghost use Rattle.om_interval.specs.declared.shared_blocks.TheConstants.{BLOCK};
@@ -28,7 +30,7 @@ impl Model for SharedBlocks {
 }
 
 impl SharedBlocks {
-    // The start of incarnation 0.
+    // Makes the line of one start, that of incarnation 0.
     pub(crate) fn new(alloc: Global) -> Result<SharedBlocks, AllocError>
         ensures { IfOk result (λ line. line ≡ 0 ∷ []) }
     {
@@ -82,7 +84,7 @@ fn number_at(numbers: &[u64], place: usize) -> Option<u64>
     numbers.get(place).copied()
 }
 
-// The same blocks, each with one owner more.
+// Returns the same blocks, each with one owner more.
 fn blocks_of(alloc: Global, blocks: &Vec<Arc<Vec<u64>>>) -> Result<Vec<Arc<Vec<u64>>>, AllocError>
     ensures { IfOk result (λ copy. blocks_in copy.items ≡ blocks_in blocks.now.items) }
 {

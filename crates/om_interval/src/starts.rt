@@ -1,3 +1,5 @@
+//! The intervals at which incarnations start.
+
 ghost use Rattle.std.specs.Prelude.{◌≡◌, ℕ, ◌+◌, ◌-◌, ◌<◌, ◌≤◌, ◌↔◌, List, [], ◌∷◌, length, replicate, slice_get, Some, IsTrue, IfOk, OnOk, OnErr};
 ghost use Rattle.om_interval.specs.Starts.{starts_of, newest_of, AllAreStarts, IsOrphan, MayBegin, BeginIncarnations};
 ghost use Rattle.om_interval.specs.declared.pid.TheConstants.{MAX_PROCESSES};
@@ -26,7 +28,7 @@ impl Model for Starts {
 }
 
 impl Starts {
-    /// The starts of `n` processes that have never failed.
+    /// Makes the starts of `n` processes that have never failed.
     pub fn new(alloc: Global, n: usize) -> Result<Starts, AllocError>
         requires some { 1 ≤ n }
         requires within { n ≤ MAX_PROCESSES }
@@ -39,7 +41,7 @@ impl Starts {
         Ok(Starts { by_process })
     }
 
-    /// The number of processes, from 1 to the limit.
+    /// Returns the number of processes, from 1 to the limit.
     pub fn n(&self) -> usize
         ensures processes { result ≡ length self.now }
         ensures some { 1 ≤ result }
@@ -48,7 +50,7 @@ impl Starts {
         self.by_process.len()
     }
 
-    /// The newest incarnation of a process: 0 at first.
+    /// Returns the newest incarnation of a process: 0 at first.
     pub fn incs(&self, pid: Pid) -> u32
         requires { pid < length self.now }
         ensures newest { result ≡ newest_of self.now pid }
@@ -58,7 +60,7 @@ impl Starts {
         (starts.len() - 1) as u32
     }
 
-    /// The interval at which an incarnation of a process starts: 0 for incarnation 0, and `None` above the newest.
+    /// Returns the interval at which an incarnation of a process starts: 0 for incarnation 0, and `None` above the newest.
     pub fn start(&self, pid: Pid, inc: u32) -> Option<u64>
         requires { pid < length self.now }
         ensures start { result ≡ slice_get (starts_of self.now pid) inc }
@@ -78,7 +80,7 @@ impl Starts {
         next.is_some_and(|start| start <= u64::from(tag.interval))
     }
 
-    /// The same starts once more.
+    /// Returns the same starts once more.
     pub fn copy(&self, alloc: Global) -> Result<Starts, AllocError>
         ensures { IfOk result (λ copy. copy ≡ self.now) }
     {
@@ -106,7 +108,7 @@ impl Starts {
     }
 }
 
-// The starts once each named process has one more, right above its place of the state.
+// Returns the starts once each named process has one more, right above its place of the state.
 fn begun(
     alloc: Global,
     by_process: &Vec<SharedBlocks>,

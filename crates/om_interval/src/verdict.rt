@@ -1,3 +1,5 @@
+//! What a finished round says to a process.
+
 /// What a finished round of recovery says to one process.
 #[derive(Clone, Copy, Debug, PartialEq, Eq, Hash)]
 pub struct Verdict {

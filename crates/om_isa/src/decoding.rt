@@ -80,7 +80,8 @@ macro_rules! extension_rows {
     };
 }
 
-/// The instruction that a word stands for in a program of this extension, or `None` where it fits no row of it.
+/// Returns the instruction that a word stands for in a program of this extension, or `None` where it fits no
+/// row of it.
 #[inline(always)]
 pub fn decode(w: u32, ext: Ext) -> Option<Inst>
     // The result equals at most one instruction, so no word fits two rows.
@@ -91,7 +92,7 @@ pub fn decode(w: u32, ext: Ext) -> Option<Inst>
     ext.has(extension_of(&inst)).then_some(inst)
 }
 
-// The instruction of a word's row, whatever the extension.
+// Returns the instruction of a word's row, whatever the extension.
 #[inline(always)]
 fn decode_by_rows(w: u32) -> Option<Inst>
     ensures { (i : Inst) → Fits w i ↔ (result ≡ Some i) }
@@ -99,7 +100,7 @@ fn decode_by_rows(w: u32) -> Option<Inst>
     rows!(decode_rows!(w))
 }
 
-// The least extension that has an instruction.
+// Returns the least extension that has an instruction.
 #[inline(always)]
 fn extension_of(i: &Inst) -> Ext
     ensures { result ≡ extension_of i.now }

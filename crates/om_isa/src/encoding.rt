@@ -10,7 +10,7 @@ use crate::inst::Inst;
 use crate::words::bits;
 use crate::{rows, shape};
 
-// A field at its place in a word, from bit lo on.
+// Returns a field at its place in a word, from bit lo on.
 fn place(field: u32, lo: u32) -> u32
     requires within { lo < 32 }
     requires fits { field * 2 ^ lo < 2 ^ 32 }
@@ -147,7 +147,7 @@ macro_rules! encode_rows {
     };
 }
 
-/// The one word that decodes to the instruction, in a program that may use all instructions.
+/// Returns the one word that decodes to the instruction, in a program that may use all instructions.
 pub fn encode(i: &Inst) -> u32
     ensures decodes { Decodes Ext.Im result i.now }
     ensures only { (w : ℕ) → Decodes Ext.Im w i.now → w ≡ result }
@@ -155,7 +155,7 @@ pub fn encode(i: &Inst) -> u32
     encode_by_rows(i)
 }
 
-// The one word that fits the instruction's row.
+// Returns the one word that fits the instruction's row.
 fn encode_by_rows(i: &Inst) -> u32
     ensures fits { Fits result i.now }
     ensures only { (w : ℕ) → Fits w i.now → w ≡ result }

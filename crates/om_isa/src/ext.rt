@@ -1,3 +1,5 @@
+//! The instructions that a program may use.
+
 ghost use Rattle.std.specs.Prelude.{◌≡◌};
 ghost use Rattle.om_isa.specs.Rows.{has};
 

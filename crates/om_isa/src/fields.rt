@@ -28,7 +28,7 @@ impl Reg {
     /// The greatest value.
     pub const MAX: u8 = 31;
 
-    /// The field with this value, or `None` where it is out of range.
+    /// Makes the field with this value, or `None` where it is out of range.
     pub fn new(value: u8) -> Option<Self>
         ensures valid { IsSome result ↔ (value ≤ Self.MAX) }
         ensures value { IfSome result (λ r. r ≡ value) }
@@ -40,7 +40,7 @@ impl Reg {
         }
     }
 
-    /// The value, which is within its range.
+    /// Returns the value, which is within its range.
     pub fn value(self) -> u8
         ensures value { result ≡ self }
         ensures range { result ≤ Self.MAX }
@@ -75,7 +75,7 @@ impl Imm12 {
     /// The greatest value.
     pub const MAX: i32 = 2047;
 
-    /// The field with this value, or `None` where it is out of range.
+    /// Makes the field with this value, or `None` where it is out of range.
     pub fn new(value: i32) -> Option<Self>
         ensures valid { IsSome result ↔ ((Self.MIN ≤ℤ value) × (value ≤ℤ Self.MAX)) }
         ensures value { IfSome result (λ i. i ≡ value) }
@@ -87,7 +87,7 @@ impl Imm12 {
         }
     }
 
-    /// The value, which is within its range.
+    /// Returns the value, which is within its range.
     pub fn value(self) -> i32
         ensures value { result ≡ self }
         ensures least { Self.MIN ≤ℤ result }
@@ -124,7 +124,7 @@ impl Off13 {
     /// The greatest value.
     pub const MAX: i32 = 4094;
 
-    /// The field with this value, or `None` where it is odd or out of range.
+    /// Makes the field with this value, or `None` where it is odd or out of range.
     pub fn new(value: i32) -> Option<Self>
         ensures valid { IsSome result ↔ ((Self.MIN ≤ℤ value) × (value ≤ℤ Self.MAX) × IsEven value) }
         ensures value { IfSome result (λ o. o ≡ value) }
@@ -136,7 +136,7 @@ impl Off13 {
         }
     }
 
-    /// The value, which is even and within its range.
+    /// Returns the value, which is even and within its range.
     pub fn value(self) -> i32
         ensures value { result ≡ self }
         ensures least { Self.MIN ≤ℤ result }
@@ -174,7 +174,7 @@ impl Off21 {
     /// The greatest value.
     pub const MAX: i32 = 1_048_574;
 
-    /// The field with this value, or `None` where it is odd or out of range.
+    /// Makes the field with this value, or `None` where it is odd or out of range.
     pub fn new(value: i32) -> Option<Self>
         ensures valid { IsSome result ↔ ((Self.MIN ≤ℤ value) × (value ≤ℤ Self.MAX) × IsEven value) }
         ensures value { IfSome result (λ o. o ≡ value) }
@@ -186,7 +186,7 @@ impl Off21 {
         }
     }
 
-    /// The value, which is even and within its range.
+    /// Returns the value, which is even and within its range.
     pub fn value(self) -> i32
         ensures value { result ≡ self }
         ensures least { Self.MIN ≤ℤ result }
@@ -220,7 +220,7 @@ impl Upper {
     /// The greatest value.
     pub const MAX: u32 = 1_048_575;
 
-    /// The field with this value, or `None` where it is out of range.
+    /// Makes the field with this value, or `None` where it is out of range.
     pub fn new(value: u32) -> Option<Self>
         ensures valid { IsSome result ↔ (value ≤ Self.MAX) }
         ensures value { IfSome result (λ u. u ≡ value) }
@@ -232,7 +232,7 @@ impl Upper {
         }
     }
 
-    /// The value, which is within its range.
+    /// Returns the value, which is within its range.
     pub fn value(self) -> u32
         ensures value { result ≡ self }
         ensures range { result ≤ Self.MAX }
@@ -264,7 +264,7 @@ impl Shamt {
     /// The greatest value.
     pub const MAX: u8 = 31;
 
-    /// The field with this value, or `None` where it is out of range.
+    /// Makes the field with this value, or `None` where it is out of range.
     pub fn new(value: u8) -> Option<Self>
         ensures valid { IsSome result ↔ (value ≤ Self.MAX) }
         ensures value { IfSome result (λ s. s ≡ value) }
@@ -276,7 +276,7 @@ impl Shamt {
         }
     }
 
-    /// The value, which is within its range.
+    /// Returns the value, which is within its range.
     pub fn value(self) -> u8
         ensures value { result ≡ self }
         ensures range { result ≤ Self.MAX }
@@ -308,7 +308,7 @@ impl FenceBits {
     /// The greatest value.
     pub const MAX: u16 = 4095;
 
-    /// The field with this value, or `None` where it is out of range.
+    /// Makes the field with this value, or `None` where it is out of range.
     pub fn new(value: u16) -> Option<Self>
         ensures valid { IsSome result ↔ (value ≤ Self.MAX) }
         ensures value { IfSome result (λ f. f ≡ value) }
@@ -320,7 +320,7 @@ impl FenceBits {
         }
     }
 
-    /// The value, which is within its range.
+    /// Returns the value, which is within its range.
     pub fn value(self) -> u16
         ensures value { result ≡ self }
         ensures range { result ≤ Self.MAX }

@@ -1,3 +1,5 @@
+//! Instructions with their fields.
+
 use crate::encoding::encode;
 use crate::fields::{FenceBits, Imm12, Off13, Off21, Reg, Shamt, Upper};
 use std::fmt;

@@ -4,7 +4,7 @@ ghost use Rattle.std.specs.Prelude.{◌≡◌};
 ghost use Rattle.om_isa.specs.declared.memory.TheConstants.{MAX_MEMORY, MIN_MEMORY};
 ghost use Rattle.om_isa.specs.declared.registers.TheConstants.{REGISTERS, WRITABLE_REGISTERS};
 
-/// The limits of memories, in bytes, and the numbers of registers are these.
+/// Proves that the limits of memories, in bytes, and the numbers of registers are these.
 pub fn limits()
     ensures least_memory { MIN_MEMORY ≡ 4 }
     ensures greatest_memory { MAX_MEMORY ≡ 65536 }

@@ -1,3 +1,5 @@
+//! The sizes that a memory may have.
+
 ghost use Rattle.std.specs.Prelude.{◌≡◌, ◌↔◌, true};
 ghost use Rattle.om_isa.specs.Memory.{IsMemorySize, is_memory_size};
 

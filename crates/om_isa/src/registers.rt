@@ -1,3 +1,5 @@
+//! The numbers of registers.
+
 /// The number of registers, x0 among them.
 pub const REGISTERS: usize = 32;
 

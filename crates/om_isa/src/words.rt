@@ -5,7 +5,7 @@ ghost use Rattle.om_isa.specs.Words.{bits_of, sign_of, immediate_i, immediate_s,
 
 use crate::fields::{FenceBits, Imm12, Off13, Off21, Reg, Shamt, Upper};
 
-// Bits hi to lo, both included.
+// Returns bits `hi` to `lo` of a word, both included.
 #[tactic(auto, using(crate::proofs::Bits::and_ones))]
 pub fn bits(w: u32, hi: u32, lo: u32) -> u32
     requires ordered { lo ≤ hi }
@@ -81,7 +81,7 @@ pub fn upper(w: u32) -> Upper
     }
 }
 
-// 1 where an immediate of the word is below 0.
+// Returns 1 where an immediate of the word is below 0.
 fn sign(w: u32) -> i32
     ensures { result ≡ pos (sign_of w) }
 {
@@ -94,7 +94,7 @@ pub fn imm_i(w: u32) -> Imm12
     Imm12 { value: high_12(w) }
 }
 
-// Bits 31 to 20 as a signed number, which costs one shift.
+// Returns bits 31 to 20 as a signed number, which costs one shift.
 #[tactic(auto, using(crate::proofs::Bits::signed_bits))]
 fn high_12(w: u32) -> i32
     ensures { result ≡ immediate_i w }
@@ -110,7 +110,7 @@ pub fn imm_s(w: u32) -> Imm12
     }
 }
 
-// Bits 31 to 25 as a signed number, and bits 11 to 7 behind them.
+// Returns bits 31 to 25 as a signed number, and bits 11 to 7 behind them.
 #[tactic(auto, using(crate::proofs::Bits::high_bits))]
 fn high_7_low_5(w: u32) -> i32
     ensures { result ≡ immediate_s w }

@@ -51,7 +51,7 @@ pub fn all_text<S: Ledger>(alloc: Global, store: &mut S) -> Result<String, LookF
     Ok(text)
 }
 
-// The rows of a table.
+// Reads the rows of a table.
 fn rows_in<S: Ledger>(
     alloc: Global,
     store: &mut S,
@@ -70,7 +70,7 @@ fn rows_in<S: Ledger>(
     }
 }
 
-// The text of the rows of the three tables.
+// Returns the text of the rows of the three tables.
 fn text_of(
     alloc: Global,
     about: &[(u64, Vec<u8>)],

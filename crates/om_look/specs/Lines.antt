@@ -14,7 +14,7 @@ fault_text (decoding.Field offset) = codes "field " ++ decimal offset
 fault_text decoding.Trailing = codes "trailing"
 fault_text decoding.Memory = []
 
--- of a record that names another interval
+-- the fault of a record that names another interval
 abbrev pub another_text : ℕ → List ℕ
 another_text y = codes " damaged interval " ++ decimal y
 
@@ -25,7 +25,7 @@ head_text c bytes =
     ++ codes " count " ++ decimal c.head.count ++ codes " version " ++ decimal (slice_index bytes 1)
     ++ codes " bytes " ++ decimal (length bytes)
 
--- a receipt
+-- what is told of a receipt
 unfoldable pub message_text : ReceiptRecord → List ℕ
 message_text r =
     codes " from " ++ decimal r.from ++ codes " interval " ++ decimal r.sender_interval

@@ -16,8 +16,8 @@ use crate::spans::{push_spans, spans_of};
 use om_stable::Stable;
 use std::alloc::{AllocError, Global};
 
-/// The text of what a store holds: a line for each checkpoint, for each receipt, and for each range of intervals to which the
-/// process can be replayed. A record that does not decode has a line too, which says why. The store keeps its content.
+/// Makes the text of what a store holds: a line for each checkpoint, for each receipt, and for each range of intervals to which
+/// the process can be replayed. A record that does not decode has a line too, which says why. The store keeps its content.
 ///
 /// From each checkpoint the process is replayed once, or twice where a receipt is missing behind it: the work is linear in what
 /// is stored.
@@ -32,7 +32,7 @@ pub fn content_text<S: Stable>(alloc: Global, store: &mut S) -> Result<String, L
     text_of(alloc, &found, &receipts)
 }
 
-// The text of these records.
+// Returns the text of these records.
 fn text_of(alloc: Global, found: &[Found], receipts: &[(u32, Vec<u8>)]) -> Result<String, LookFault>
     ensures text { IfOk result (λ text. IsTextOf found.now (rows_of receipts.now) (string_bytes text)) }
     ensures refused { IsErrOf result LookFault.Fault → ⊥ }

@@ -27,7 +27,7 @@ pub struct Found {
     pub stop: u64,
 }
 
-// The checkpoints, ascending. One is kept as its line, since its bytes may be many.
+// Gathers the checkpoints, ascending. One is kept as its line, since its bytes may be many.
 pub(crate) fn gather<S: Stable>(alloc: Global, store: &mut S) -> Result<Vec<Found>, LookFault>
     ensures all { IsCleanCall S.is_clean S.IsSound store.old store.new
         → IfOk result (λ found. AreFound (S.content store.old) None found.items) }
@@ -61,7 +61,8 @@ fn find<S: Stable>(
     Ok(below(x, to))
 }
 
-// The interval before `x`; a store of which nothing is known may have found one that is not at most `to`.
+// Returns the interval before `x`; a store of which nothing is known may have found one that is not at most
+// `to`.
 pub(crate) fn below(x: u32, to: u32) -> Option<u32>
     ensures below { IfSome result (λ y. y < to) }
     ensures before { x ≤ to → result ≡ before x }
@@ -72,7 +73,7 @@ pub(crate) fn below(x: u32, to: u32) -> Option<u32>
     }
 }
 
-// The checkpoint of `x`, which is effective for `to`.
+// Returns the checkpoint of `x`, which is effective for `to`.
 fn found_at<S: Stable>(
     alloc: Global,
     store: &mut S,

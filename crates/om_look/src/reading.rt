@@ -13,7 +13,7 @@ use om_process::LAST_INTERVAL;
 use om_stable::Stable;
 use std::alloc::Global;
 
-// The effective checkpoint of `x`.
+// Reads the effective checkpoint of `x`.
 pub(crate) fn effective_of<S: Stable>(
     alloc: Global,
     store: &mut S,
@@ -33,7 +33,7 @@ pub(crate) fn effective_of<S: Stable>(
     }
 }
 
-// All receipts.
+// Reads all receipts.
 pub(crate) fn receipts_of<S: Stable>(
     alloc: Global,
     store: &mut S,

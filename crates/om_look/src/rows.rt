@@ -118,7 +118,7 @@ pub fn stored_senders<S: Stable>(
     senders_in(alloc, own, n, &found)
 }
 
-// The senders of these receipts.
+// Returns the senders of these receipts.
 fn senders_in(
     alloc: Global,
     own: Pid,
@@ -163,7 +163,7 @@ fn push_segment<S: Stable>(
     Ok(below(x, to))
 }
 
-// The receipts behind `x`, up to the interval after `to`.
+// Reads the receipts behind `x`, up to the interval after `to`.
 fn receipts_up_to<S: Stable>(
     alloc: Global,
     store: &mut S,
@@ -181,7 +181,7 @@ fn receipts_up_to<S: Stable>(
     }
 }
 
-// The row of the checkpoint of `x` that these bytes spell.
+// Returns the row of the checkpoint of `x` that these bytes spell.
 fn base_at(alloc: Global, own: Pid, n: usize, x: u32, bytes: &[u8]) -> Result<PendingRow, RowsFault>
     ensures found { IfOk result (λ row. (c : CheckpointRecord) × IsSpelled c bytes.now × IsBase own n x c × (row ≡ base_row c)) }
     ensures size { IfOk result (λ row. length row.vec ≡ n) }
@@ -257,7 +257,7 @@ fn is_next(x: u32, y: u32) -> bool
     x.checked_add(1) == Some(y)
 }
 
-// The row of the receipt that these bytes spell, which follows on a row.
+// Returns the row of the receipt that these bytes spell, which follows on a row.
 fn next_at(
     alloc: Global,
     own: Pid,
@@ -292,7 +292,7 @@ fn next_at(
     Ok(row)
 }
 
-// The receipt of process `own` of `n` at `x` that these bytes spell.
+// Returns the receipt of process `own` of `n` at `x` that these bytes spell.
 fn receipt_of(alloc: Global, own: Pid, n: usize, x: u32, bytes: &[u8]) -> Result<Receipt, RowsFault>
     ensures found { IfOk result (λ r. SpellsReceipt (receipt_record r) bytes.now) }
     ensures of { IfOk result (λ r. IsReceiptOf own n x (receipt_record r)) }

@@ -17,7 +17,7 @@ pub struct Span {
     pub stop: u64,
 }
 
-// The ranges of the intervals that lie behind one of these checkpoints.
+// Returns the ranges of the intervals that lie behind one of these checkpoints.
 pub(crate) fn spans_of(alloc: Global, found: &[Found]) -> Result<Vec<Span>, AllocError>
     ensures apart { AreOrdered 0 found.now → IfOk result (λ spans. AreApart 0 spans.items) }
     ensures covered { AreOrdered 0 found.now

@@ -13,8 +13,8 @@ use om_process::{ProcCore, ReplayFault};
 use om_stable::Stable;
 use std::alloc::Global;
 
-// The first interval up to `x` to which the process is not replayed, from its effective checkpoint of `x` on; where it is to
-// each, the one behind `x`. It is replayed once, or where a receipt is missing once more, up to there.
+// Returns the first interval up to `x` to which the process is not replayed, from its effective checkpoint of `x` on; where
+// it is to each, the one behind `x`. It is replayed once, or where a receipt is missing once more, up to there.
 pub(crate) fn stop_of<S: Stable>(alloc: Global, store: &mut S, x: u32) -> Result<u64, LookFault>
     ensures stops { IsCleanCall S.is_clean S.IsSound store.old store.new → (c : ℕ)
         → IsEffective (S.content store.old).checkpoints x c → IfOk result (StopsAt (S.content store.old) c x) }
@@ -29,7 +29,8 @@ pub(crate) fn stop_of<S: Stable>(alloc: Global, store: &mut S, x: u32) -> Result
     }
 }
 
-// The same up to the interval before `y`, where no receipt below `y` is missing.
+// Returns the first interval below `y` to which the process is not replayed, where no receipt below `y` is missing; where it
+// is to each, `y`.
 fn stop_below<S: Stable>(alloc: Global, store: &mut S, y: u32) -> Result<u64, LookFault>
     ensures stops { IsCleanCall S.is_clean S.IsSound store.old store.new → (c : ℕ) → c < y
         → IsEffective (S.content store.old).checkpoints (y - 1) c → NoneMissing (S.content store.old) c (y - 1)

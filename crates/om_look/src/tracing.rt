@@ -72,7 +72,7 @@ pub fn trace(
     })
 }
 
-// One turn with its lines, if there is one.
+// Takes one turn and writes its lines, if there is one.
 fn turn(alloc: Global, core: &mut ProcCore, text: &mut Vec<u8>) -> Result<bool, AllocError>
     ensures turn { IfOk result (λ went. went ≡ true → (lines : List ℕ)
         × IsTrace core.old.own (cluster_size core.old.now) 1 core.old.now core.new.now lines
@@ -96,7 +96,7 @@ fn turn(alloc: Global, core: &mut ProcCore, text: &mut Vec<u8>) -> Result<bool, 
     Ok(true)
 }
 
-// The instruction that the machine is to carry out, if there is one at pc.
+// Returns the instruction that the machine is to carry out, if there is one at pc.
 fn about_to_do(machine: &Machine) -> Option<Before>
     ensures before { IfSome result (IsBefore machine.now) }
     ensures none { IfNone result ((cause : Cause) × ((next_of machine.now).0 ≡ Event.Trap cause)) }
@@ -114,7 +114,7 @@ fn about_to_do(machine: &Machine) -> Option<Before>
     })
 }
 
-// The word at pc, if it lies in memory.
+// Returns the word at pc, if it lies in memory.
 fn word_of(machine: &Machine) -> Option<u32>
     ensures word { IfSome result (λ word. word ≡ word_at machine.now.memory machine.now.pc) }
     ensures outside { IfNone result (length machine.now.memory < machine.now.pc + 4) }

@@ -83,7 +83,7 @@ impl Width {
 }
 
 impl Written {
-    // The address of the bytes, or 0 where none are written.
+    // Returns the address of the bytes, or 0 where none are written.
     pub(crate) fn address(self, machine: &Machine) -> u32
         ensures { result ≡ address_in machine.now self }
     {

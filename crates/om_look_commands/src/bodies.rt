@@ -49,8 +49,8 @@ pub fn show_bodies<S: Stable, W: Write>(
     write_answer(writer, text.as_bytes())
 }
 
-/// The same of a store that keeps something beside its records: the lines of that stand between, as [`show_all`](crate::show_all)
-/// writes them.
+/// Writes what a store holds that keeps something beside its records, as [`show_bodies`] does: the lines of that stand between, as
+/// [`show_all`](crate::show_all) writes them.
 pub fn show_all_bodies<S: Ledger, W: Write>(
     alloc: Global,
     store: &mut S,
@@ -119,7 +119,7 @@ pub fn show_bodies_in<W: Write>(
     write_answer(writer, &text)
 }
 
-// The text of that.
+// Returns the text that `show_bodies_in` writes.
 fn shown(alloc: Global, bytes: &DatabaseBytes, form: BytesForm) -> Result<Vec<u8>, CommandError>
     ensures text { IfOk result (λ text. IsSoIn bytes.now.file.items bytes.now.log.items (λ held. IsShownWithBodies form held text.items)) }
     ensures error { IfErr result IsNoMatterOfContent }
@@ -131,7 +131,7 @@ fn shown(alloc: Global, bytes: &DatabaseBytes, form: BytesForm) -> Result<Vec<u8
     }
 }
 
-// The same of a store of five tables.
+// Returns the text that `show_bodies_in` writes of a store of five tables.
 #[inline(never)]
 fn shown_of_five(
     alloc: Global,
@@ -146,7 +146,7 @@ fn shown_of_five(
     Ok(text)
 }
 
-// The same of a store of two tables.
+// Returns the text that `show_bodies_in` writes of a store of two tables.
 #[inline(never)]
 fn shown_of_two(
     alloc: Global,

@@ -12,7 +12,7 @@ use sqlite::{Connection, FileStore};
 use sqlite_disk::Memory;
 use std::alloc::Global;
 
-/// The database that bytes hold. Refused where they hold none, and where memory ran out.
+/// Opens the database that bytes hold. Refused where they hold none, and where memory ran out.
 pub fn opened(
     alloc: Global,
     bytes: &DatabaseBytes,

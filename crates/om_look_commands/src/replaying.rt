@@ -66,7 +66,7 @@ pub fn replay_in<W: Write>(
     write_answer(writer, &text)
 }
 
-// The text of that state.
+// Returns the text that `replay_in` writes.
 fn replayed(alloc: Global, bytes: &DatabaseBytes, interval: u32) -> Result<Vec<u8>, CommandError>
     ensures text { IfOk result (λ text. IsSoIn bytes.now.file.items bytes.now.log.items (λ held. IsReplayText held interval text.items)) }
     ensures error { IfErr result (IsErrorIn bytes.now.file.items bytes.now.log.items (λ held. IsReplayError held interval)) }
@@ -78,7 +78,7 @@ fn replayed(alloc: Global, bytes: &DatabaseBytes, interval: u32) -> Result<Vec<u
     }
 }
 
-// The same of a store of five tables.
+// Returns the text that `replay_in` writes of a store of five tables.
 #[inline(never)]
 fn replayed_of_five(
     alloc: Global,
@@ -92,7 +92,7 @@ fn replayed_of_five(
     Ok(text)
 }
 
-// The same of a store of two tables.
+// Returns the text that `replay_in` writes of a store of two tables.
 #[inline(never)]
 fn replayed_of_two(
     alloc: Global,

@@ -87,7 +87,7 @@ pub fn show_in<W: Write>(
     write_answer(writer, &text)
 }
 
-// The text of that.
+// Returns the text that `show_in` writes.
 fn shown(alloc: Global, bytes: &DatabaseBytes) -> Result<Vec<u8>, CommandError>
     ensures text { IfOk result (λ text. IsSoIn bytes.now.file.items bytes.now.log.items (λ held. IsShown held text.items)) }
     ensures error { IfErr result IsNoMatterOfContent }
@@ -99,7 +99,7 @@ fn shown(alloc: Global, bytes: &DatabaseBytes) -> Result<Vec<u8>, CommandError>
     }
 }
 
-// The same of a store of five tables.
+// Returns the text that `show_in` writes of a store of five tables.
 #[inline(never)]
 fn shown_of_five(
     alloc: Global,
@@ -113,7 +113,7 @@ fn shown_of_five(
     Ok(text)
 }
 
-// The same of a store of two tables.
+// Returns the text that `show_in` writes of a store of two tables.
 #[inline(never)]
 fn shown_of_two(alloc: Global, conn: Connection<FileStore<Memory>>) -> Result<Vec<u8>, CommandError>
     requires { conn.in_transaction ≡ false }

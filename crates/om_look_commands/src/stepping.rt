@@ -72,7 +72,7 @@ pub fn steps_in<W: Write>(
     write_answer(writer, &text)
 }
 
-// The text of that.
+// Returns the text that `steps_in` writes.
 fn stepped(
     alloc: Global,
     bytes: &DatabaseBytes,
@@ -90,7 +90,7 @@ fn stepped(
     }
 }
 
-// The same of a store of five tables.
+// Returns the text that `steps_in` writes of a store of five tables.
 #[inline(never)]
 fn stepped_of_five(
     alloc: Global,
@@ -106,7 +106,7 @@ fn stepped_of_five(
     Ok(text)
 }
 
-// The same of a store of two tables.
+// Returns the text that `steps_in` writes of a store of two tables.
 #[inline(never)]
 fn stepped_of_two(
     alloc: Global,

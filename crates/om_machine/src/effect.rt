@@ -1,3 +1,5 @@
+//! What an instruction does to a machine.
+
 use crate::event::Cause;
 use om_isa::Reg;
 

@@ -1,3 +1,5 @@
+//! What a step of a machine was: calls, traps, and instructions that went.
+
 ghost use Rattle.std.specs.Prelude.{◌≡◌};
 ghost use Rattle.om_machine.specs.Causes.{cause_number};
 
@@ -52,7 +54,7 @@ pub enum Cause {
 }
 
 impl Cause {
-    /// The cause's number, 1 to 9, as texts give it.
+    /// Returns the cause's number, 1 to 9, as texts give it.
     pub fn number(self) -> u32
         ensures { result ≡ cause_number self }
     {

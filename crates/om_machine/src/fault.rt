@@ -1,3 +1,5 @@
+//! Why a machine is not made.
+
 use std::alloc::AllocError;
 use thiserror::Error;
 

@@ -82,21 +82,21 @@ impl Machine {
         rows!(effect_rows!(self inst))
     }
 
-    // The number of a register.
+    // Returns the number of a register.
     fn operand(&self, r: Reg) -> u32
         ensures { result ≡ reg self.now r }
     {
         self.number(r.value() as usize)
     }
 
-    // The sum of a register and an immediate.
+    // Returns the sum of a register and an immediate.
     fn address(&self, base: Reg, imm: Imm12) -> u32
         ensures { result ≡ address_of self.now base imm }
     {
         add(self.operand(base), imm.value().cast_unsigned())
     }
 
-    // A branch to an offset from its own address.
+    // Returns the effect of a branch to an offset from its own address.
     #[tactic(auto, unfolding(crate::specs::Effects::branch_effect))]
     fn branch(&self, holds: bool, offset: Off13) -> EffectNow
         ensures effect { told self.now result ≡ branch_effect self.now holds offset }
@@ -113,7 +113,7 @@ impl Machine {
         }
     }
 
-    // A jump.
+    // Returns the effect of a jump: the trap where the target is misaligned.
     #[tactic(auto, unfolding(crate::specs::Effects::jump_effect))]
     fn jump(&self, rd: Reg, target: u32) -> EffectNow
         ensures effect { told self.now result ≡ jump_effect rd target }
@@ -255,7 +255,7 @@ impl Machine {
         }
     }
 
-    // The environment call that x17 numbers, or the trap where there is none.
+    // Returns the environment call that x17 numbers, or the trap where there is none.
     #[tactic(auto, unfolding(crate::specs::Effects::call_effect))]
     pub(crate) fn call(&self) -> Event
         ensures event { result ≡ event_of (call_effect self.now) }

@@ -1,3 +1,5 @@
+//! The last count of a machine, and the registers of its calls.
+
 /// The last value of the count of finished instructions. A machine that has reached it goes no further.
 pub const LAST_COUNT: u64 = u64::MAX;
 

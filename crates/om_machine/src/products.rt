@@ -9,7 +9,7 @@ pub fn multiply(a: u32, b: u32) -> u32
     a.wrapping_mul(b)
 }
 
-// The high 32 bits of a product.
+// Returns the high 32 bits of a product.
 fn high(product: i64) -> u32
     ensures { result ≡ high_bits product }
 {

@@ -1,3 +1,5 @@
+//! What the manager answers, and why it refuses.
+
 use om_recover::NoteError;
 use thiserror::Error;
 

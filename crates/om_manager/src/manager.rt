@@ -1,3 +1,5 @@
+//! The manager of a cluster: its reads, and how it prunes.
+
 ghost use Rattle.std.specs.Prelude.{◌≡◌, ℕ, [], ◌∷◌, ◌<◌, ◌≤◌, ◌↔◌, length, replicate, map, slice_index, IfOk, false, None, is_some};
 ghost use Rattle.om_interval.specs.declared.pid.TheConstants.{MAX_PROCESSES};
 ghost use Rattle.om_interval.specs.Starts.{newest_of, is_named};
@@ -59,7 +61,7 @@ impl Model for Manager {
 }
 
 impl Manager {
-    /// The manager of `n` processes at their start: checkpoint 0 of each, and nothing else.
+    /// Makes the manager of `n` processes at their start: checkpoint 0 of each, and nothing else.
     pub fn new(alloc: Global, n: usize) -> Result<Manager, AllocError>
         requires some { 1 ≤ n }
         requires within { n ≤ MAX_PROCESSES }
@@ -89,8 +91,8 @@ impl Manager {
         })
     }
 
-    /// The recovery state: by process, the greatest interval that can be recovered (the maximum recoverable state of Johnson
-    /// and Zwaenepoel 1990).
+    /// Returns the recovery state: by process, the greatest interval that can be recovered (the maximum recoverable state of
+    /// Johnson and Zwaenepoel 1990).
     pub fn recovery(&self) -> DepVec
         ensures recovery { result ≡ self.now.recovery }
         ensures exact { IsExact self.now }
@@ -99,7 +101,7 @@ impl Manager {
         self.records.recovery()
     }
 
-    /// The incarnations of each process.
+    /// Returns at which intervals the incarnations of each process start.
     pub fn starts(&self) -> &Starts
         ensures { result.now ≡ self.now.starts }
     {
@@ -120,14 +122,14 @@ impl Manager {
         self.gathering.is_some()
     }
 
-    /// The version: one higher for each call that raises the recovery state, opens a gathering or finishes a round.
+    /// Returns the version: one higher for each call that raises the recovery state, opens a gathering or finishes a round.
     pub fn version(&self) -> u64
         ensures { result ≡ self.now.version }
     {
         self.version
     }
 
-    /// The checkpoint that is used for the process's place of the recovery state.
+    /// Returns the interval of the checkpoint that is used for the process's place of the recovery state.
     pub fn effective(&self, pid: Pid) -> u32
         requires { pid < process_count self.now }
         ensures { IsEffective self.now.rows pid (slice_index self.now.recovery pid) result }
@@ -135,7 +137,7 @@ impl Manager {
         self.records.effective(pid)
     }
 
-    /// The number of the process's next output.
+    /// Returns the number of the process's next output.
     pub fn next_output(&self, pid: Pid) -> u64
         requires { pid < process_count self.now }
         ensures { result ≡ length (held_by self.now pid) }
@@ -144,7 +146,7 @@ impl Manager {
         log.next() as u64
     }
 
-    /// The outputs of a process that are released, in order. They are kept for good.
+    /// Returns the outputs of a process that are released, in order. They are kept for good.
     pub fn released(&self, pid: Pid) -> &[Output]
         requires { pid < process_count self.now }
         ensures outputs { map held_of result.now ≡ released_by self.now pid }
@@ -208,7 +210,7 @@ fn new_logs(alloc: Global, n: usize) -> Result<Vec<OutputLog>, AllocError>
     Ok(logs)
 }
 
-// By receiver, how many messages from this process it got in the recovery state.
+// Returns, by receiver, how many messages from this process it got in the recovery state.
 fn got_from(records: &Records, pid: Pid) -> DepVec
     requires { pid < length records.now.state }
     ensures { AreGotFrom records.now.rows records.now.state pid result }

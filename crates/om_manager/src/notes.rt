@@ -1,3 +1,5 @@
+//! How the manager notes records and outputs.
+
 ghost use Rattle.std.specs.Prelude.{◌≡◌, ◌≢◌, ◌<◌, map, false, IsTrue};
 ghost use Rattle.om_interval.specs.Vectors.{IsBelow};
 ghost use Rattle.om_recover.specs.Records.{log_of, checkpoint_of};

@@ -1,3 +1,5 @@
+//! The outputs of one process that were handed in.
+
 ghost use Rattle.std.specs.Prelude.{◌≡◌, ◌<◌, ◌≤◌, ◌↔◌, [], length, map, slice_get, IsTrue, OnOk, OnErr, Some};
 ghost use Rattle.om_manager.specs.Outputs.{held_of, within, AreNumbered};
 ghost use Rattle.om_manager.specs.steps.OutputLog.{log_with, log_to, log_within, IsUpTo, LogNotes};
@@ -53,7 +55,7 @@ impl OutputLog {
         }
     }
 
-    /// The number of the next output.
+    /// Returns the number of the next output.
     pub fn next(&self) -> usize
         ensures { result ≡ length self.now.held }
     {

@@ -1,3 +1,5 @@
+//! How a round opens, and how it finishes.
+
 ghost use Rattle.std.specs.Prelude.{◌≡◌, ◌+◌, ◌-◌, ◌<◌, ◌^◌, ◌↔◌, map, IfOk, OnOk, OnErr, Ok, Err, IsTrue};
 ghost use Rattle.om_interval.specs.Vectors.{IsBelow};
 ghost use Rattle.om_manager.specs.declared.answers.FailError.TheVariants.{Spent};

@@ -1,3 +1,5 @@
+//! What a process stores at once.
+
 /// What a process stores at once of what it keeps.
 #[derive(Clone, Copy, Debug, PartialEq, Eq)]
 pub enum Batch {

@@ -27,14 +27,14 @@ pub trait ManagerAccess {
         ensures manager { result.now ≡ state self.now }
         ensures sound { IsManager (state self.now) };
 
-    /// [`Manager::note`](om_manager::Manager::note).
+    /// Notes a row, as [`Manager::note`](om_manager::Manager::note) does.
     fn note(&mut self, alloc: Global, round: u32, row: Row) -> Result<Note, RecordError>
         ensures answer { Notes (state self.old) round row result (state self.new) }
         ensures sound { IsManager (state self.new) }
         ensures not_lowered { IsBelow (state self.old).recovery (state self.new).recovery }
         ensures released { KeepsReleased (state self.old) (state self.new) };
 
-    /// [`Manager::note_output`](om_manager::Manager::note_output).
+    /// Notes an output, as [`Manager::note_output`](om_manager::Manager::note_output) does.
     fn note_output(
         &mut self,
         alloc: Global,
@@ -50,14 +50,14 @@ pub trait ManagerAccess {
         ensures not_lowered { IsBelow (state self.old).recovery (state self.new).recovery }
         ensures released { KeepsReleased (state self.old) (state self.new) };
 
-    /// [`Manager::fail`](om_manager::Manager::fail).
+    /// Declares a failure, as [`Manager::fail`](om_manager::Manager::fail) does.
     fn fail(&mut self, alloc: Global, pid: Pid, round: u32) -> Result<Gathered, FailError>
         ensures answer { Failing (state self.old) pid round result (state self.new) }
         ensures sound { IsManager (state self.new) }
         ensures not_lowered { IsBelow (state self.old).recovery (state self.new).recovery }
         ensures released { KeepsReleased (state self.old) (state self.new) };
 
-    /// [`Manager::join`](om_manager::Manager::join).
+    /// Has a process join, as [`Manager::join`](om_manager::Manager::join) does.
     fn join(
         &mut self,
         alloc: Global,
@@ -70,7 +70,7 @@ pub trait ManagerAccess {
         ensures not_lowered { IsBelow (state self.old).recovery (state self.new).recovery }
         ensures released { KeepsReleased (state self.old) (state self.new) };
 
-    /// [`Manager::prune`](om_manager::Manager::prune).
+    /// Drops rows, as [`Manager::prune`](om_manager::Manager::prune) does.
     fn prune(&mut self)
         ensures rows { IsPruned (state self.old).rows (state self.old).recovery (state self.new).rows }
         ensures manager { state self.new ≡ record (state self.old) { rows = (state self.new).rows } }

@@ -75,7 +75,7 @@ impl MemberState {
 }
 
 impl<S: Stable> Member<S> {
-    /// A process that was started over this store.
+    /// Makes the member of a process that was started over this store.
     pub fn new(core: ProcCore, store: S) -> Member<S>
         ensures standing { result.standing ≡ stands.Up core }
         ensures round { result.round ≡ 0 }
@@ -88,7 +88,7 @@ impl<S: Stable> Member<S> {
         }
     }
 
-    /// The process: none where it is down.
+    /// Returns the process: none where it is down.
     pub fn core(&self) -> Option<&ProcCore>
         ensures some { IfSome result (λ core. core_of self.now.standing ≡ Some core.now) }
         ensures none { IfNone result (core_of self.now.standing ≡ None) }
@@ -144,7 +144,7 @@ impl<S: Stable> Member<S> {
         }
     }
 
-    /// The process fails: all that is volatile is lost. Nothing is declared.
+    /// Fails the process: all that is volatile is lost. Nothing is declared.
     pub fn fail(&mut self)
         ensures { self.new ≡ record self.old { standing = stands.Down false } }
     {
@@ -210,8 +210,8 @@ impl<S: Stable> Member<S> {
         }
     }
 
-    /// A process that is in goes on as it was, and knows the round and its starts. Refused where memory runs out, and then all
-    /// stays.
+    /// Lets a process that is in go on as it was; it knows the round and its starts then. Refused with `NotIn` where it is not
+    /// in, and where memory runs out, and then all stays.
     pub fn go_on(
         &mut self,
         alloc: Global,
@@ -237,7 +237,7 @@ impl<S: Stable> Member<S> {
         }
     }
 
-    // A process that is in is up, and knows a round.
+    // Notes that a process that is in is up, and knows a round.
     fn rise(&mut self, round: u32)
         ensures { (core : CoreState) → self.old.standing ≡ stands.In core
             → self.new ≡ record self.old { standing = stands.Up core; round = round } }
@@ -315,7 +315,7 @@ impl<S: Stable> Member<S> {
         }
     }
 
-    // A process that is up is in.
+    // Notes that a process that is up is in.
     fn go_in(&mut self)
         ensures { (core : CoreState) → self.old.standing ≡ stands.Up core → self.new ≡ record self.old { standing = stands.In core } }
     {

@@ -12,7 +12,7 @@ use om_process::{PendingRow, ProcCore};
 use om_recover::{Note, Row, RowKind};
 use std::alloc::Global;
 
-// A pending row of a process, as the manager is told it.
+// Returns a pending row of a process, as the manager is told it.
 fn row_of(pid: Pid, row: &PendingRow) -> Row
     ensures { result ≡ row_for pid row.now }
 {

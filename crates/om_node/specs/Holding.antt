@@ -23,7 +23,7 @@ abbrev pub IsStoreOf : {J S : Type 0} → Hold J S → S → Type 0
 IsStoreOf (Here store) s = store.value ≡ s
 IsStoreOf (Away ticket) s = (sent : _) × IsTicketOf ticket sent × (store_of sent ≡ s)
 
--- and where it is away, what went along is of the process too
+-- where the store is away, what went along is of the process too
 abbrev pub IsAloft : {J S : Type 0} → (S → Bool) → Member → Hold J S → Type 0
 IsAloft is_clean m (Here store) = Unit {0}
 IsAloft is_clean m (Away ticket) =

@@ -16,7 +16,7 @@ pub record Member : Type 0 where
   pub own : ℕ
   pub n : ℕ
 
--- and as it runs
+-- one of n processes, with its program, as it runs
 pub record MemberState : Type 0 where
   pub member : Member
   pub core : CoreState

@@ -22,7 +22,7 @@ use std::sync::Wait;
 pub struct WriteRequest<J: Series, S: Stable> {
     pub store: Box<S>,
     pub transaction: Transaction,
-    /// Of this store and this transaction.
+    /// The ticket of this store and this transaction.
     pub ticket: Ticket<J, SentStore<S>>,
 }
 
@@ -42,7 +42,7 @@ pub struct Landing<J: Series, S: Stable> {
     pub store: Box<S>,
     pub transaction: Transaction,
     pub told: Result<(), StoreError>,
-    /// Of the store as it went.
+    /// The ticket of the store as it went.
     pub ticket: Ticket<J, SentStore<S>>,
 }
 
@@ -58,7 +58,7 @@ impl<J: Series, S: Stable> Model for Landing<J, S> {
 }
 
 impl<J: Series, S: Ledger> WriteRequest<J, S> {
-    /// Stores it, in this thread. The ticket comes back with the store.
+    /// Stores what is requested, in this thread. The ticket comes back with the store.
     pub fn fly(self, alloc: Global) -> Landing<J, S>
         ensures { result.ticket ≡ self.ticket }
     {
@@ -154,7 +154,7 @@ impl<J: Series, S: Stable> FlightChannel<J, S> {
 }
 
 impl<J: Series, S: Ledger> FlightChannel<J, S> {
-    /// Has it stored, in the other thread. Where that is gone, it is stored at once, and comes back.
+    /// Has what is requested stored, in the other thread. Where that is gone, it is stored at once, and comes back.
     pub fn send<R: Wait>(
         &self,
         rt: &R,

@@ -68,7 +68,7 @@ impl NewRows {
 pub struct Deposit {
     pub outputs: NewRows,
     pub senders: NewRows,
-    /// Of how many receipts the senders are known to the store then.
+    /// The number of receipts whose senders are known to the store then.
     pub known: usize,
 }
 
@@ -119,7 +119,7 @@ pub struct Due {
 pub struct Kept {
     /// The number of the output behind those of the table.
     pub outputs: u64,
-    /// Of how many receipts the senders stand there.
+    /// The number of receipts whose senders stand there.
     pub senders: usize,
 }
 
@@ -170,7 +170,7 @@ impl Kept {
     }
 }
 
-// The rows of those of the outputs that are released.
+// Returns the rows of those of the outputs that are released.
 fn released_rows(alloc: Global, outputs: &[Made], released: u64) -> Result<NewRows, WorkerFault>
     ensures first { IfOk result (λ rows. rows.first ≡ first_number outputs.now) }
     ensures recs { IfOk result (λ rows. bytes_of rows.recs.items ≡ released_recs outputs.now released) }
@@ -183,7 +183,7 @@ fn released_rows(alloc: Global, outputs: &[Made], released: u64) -> Result<NewRo
     NewRows::of(first, recs)
 }
 
-// Their records.
+// Returns the records of those of the outputs that are released.
 fn released_records(
     alloc: Global,
     outputs: &[Made],
@@ -200,7 +200,7 @@ fn released_records(
     Ok(recs)
 }
 
-// The row of the senders from a number of receipts on, up to another.
+// Returns the row of the senders from a number of receipts on, up to another.
 fn sender_rows(
     alloc: Global,
     senders: &[u8],

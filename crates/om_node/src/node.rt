@@ -1,6 +1,6 @@
 //! A process over its store, up or down.
 
-ghost use Rattle.std.specs.Prelude.{◌≡◌, ◌≢◌, ◌↔◌, ◌<◌, ◌+◌, ◌≤◌, ℕ, ◌∷◌, [], ◌++◌, IfErr, IfOk, IfSome, IsErrOf, IsOk, IsTrue, OnErr, OnOk, drop, false, length};
+ghost use Rattle.std.specs.Prelude.{◌≡◌, ◌≢◌, ◌<◌, ◌+◌, ◌≤◌, ℕ, ◌∷◌, [], ◌++◌, IfErr, IfOk, IfSome, IsErrOf, IsOk, IsTrue, OnErr, OnOk, drop, false, length};
 ghost use Rattle.om_manager.specs.State.{held_by, process_count};
 ghost use Rattle.om_member.specs.Handed.{AreHandedUpTo, outputs_from};
 ghost use Rattle.om_member.specs.Keeps.{Keeps};
@@ -102,23 +102,13 @@ impl<'a, J: Series, S: Stable> Model for DownNode<'a, J, S> {
         (record { program = program_of d.image.now; own = d.pid; n = d.n }) d.store.value };
 }
 
-// A value in a box of its own.
+// Puts a value into a box of its own.
 fn boxed<T: Drop>(alloc: Global, value: T) -> Result<Box<T>, AllocError>
     ensures { IfOk result (λ b. b.value ≡ value) }
 {
     match Box::new(alloc, value) {
         Ok(in_box) => Ok(in_box),
         Err(error) => Err(AllocError::from(error)),
-    }
-}
-
-/// Returns whether a process has come to its end.
-pub fn has_ended(status: Status) -> bool
-    ensures { IsTrue result ↔ IsEnd status }
-{
-    match status {
-        Status::Ended(_) | Status::Trapped(_) => true,
-        Status::Ready | Status::Waiting => false,
     }
 }
 
@@ -295,7 +285,7 @@ impl<'a, J: Series, S: Stable> Node<'a, J, S> {
         ensures member { IfErr result (λ node. node.member ≡ self.entry.member) }
     {
         let status = self.core.status();
-        if !has_ended(status) {
+        if !status.has_ended() {
             return Err(self);
         }
         let Node { hold, .. } = self;

@@ -24,7 +24,7 @@ pub struct SentStore<S: Stable> {
 }
 
 impl<S: Stable> SentStore<S> {
-    /// Returns it, of a store and a transaction as they are now.
+    /// Returns what is sent, of a store and a transaction as they are now.
     pub fn of(store: &Box<S>, transaction: &Transaction) -> SentStore<S>
         ensures store { result.store.value ≡ store.now }
         ensures transaction { result.transaction.value ≡ transaction.now }

@@ -15,7 +15,7 @@ use om_process::{Accept, ProcCore, Ran, Status};
 use std::alloc::{AllocError, Global};
 use std::sync::Wait;
 
-/// Tells what the worker of a process did. Without observers it does nothing.
+/// Tells what the worker of a process did, to whoever observes the run. Without observers it keeps numbers alone.
 #[derive(Drop)]
 pub struct Diary<'a> {
     alloc: Global,
@@ -271,7 +271,7 @@ impl<'a> Diary<'a> {
         self.finished(rt, front, is_finished)
     }
 
-    // What the process stored is noted or lost.
+    // Forgets what the process stored: it is noted or lost.
     fn forget(&mut self) {
         self.is_spelled = false;
         self.landed = None;
@@ -298,7 +298,7 @@ impl<'a> Diary<'a> {
         self.finished(rt, front, is_finished)
     }
 
-    // The round is finished, if it is.
+    // Tells the recorder that the round is finished, if it is.
     fn finished<R: Wait>(
         &self,
         rt: &R,

@@ -58,7 +58,7 @@ impl News {
 }
 
 impl Herald {
-    /// Makes one of a run that is to begin.
+    /// Makes the herald of a run that is to begin.
     pub fn new(alloc: Global) -> Herald {
         Herald {
             alloc,

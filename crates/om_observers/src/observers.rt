@@ -21,7 +21,7 @@ pub struct Observers<'a> {
 }
 
 impl<'a> Observers<'a> {
-    /// Names nobody.
+    /// Names no observer.
     pub fn none() -> Observers<'a>
         ensures recorder { result.recorder ≡ None }
         ensures witness { result.keeps_witness ≡ false }

@@ -34,7 +34,7 @@ fn is_newer(one: &Option<Front>, other: &Option<Front>) -> bool
 }
 
 impl Progress {
-    /// Of a cluster of whose processes this was seen.
+    /// Makes the progress of a cluster of whose processes this was seen.
     pub fn of(sights: &[Sight]) -> Progress
         ensures count { result.count ≡ sum_over (λ s. s.count) sights.now }
         ensures put { result.put ≡ sum_over (λ s. s.put) sights.now }
@@ -53,7 +53,7 @@ impl Progress {
         progress
     }
 
-    // With what was seen of one more process.
+    // Adds what was seen of one more process.
     fn with(self, sight: &Sight) -> Progress
         ensures count { result.count ≡ capped (self.count + sight.now.count) }
         ensures put { result.put ≡ capped (self.put + sight.now.put) }

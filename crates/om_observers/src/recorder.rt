@@ -99,7 +99,7 @@ pub struct Recorder {
 }
 
 impl Recorder {
-    /// Of a run that is to begin.
+    /// Makes the recorder of a run that is to begin.
     pub fn new(alloc: Global) -> Recorder {
         Recorder {
             record: Mutex::new(Record {

@@ -59,7 +59,7 @@ pub struct Sight {
 }
 
 impl Sight {
-    /// Of a process that was not started yet.
+    /// Makes the sight of a process that was not started yet.
     pub fn new() -> Sight
         ensures begins { result ≡ record { doing = Begins; interval = 0; count = 0; pc = 0; refused = 0; put = 0; taken = 0; front = None } }
     {
@@ -79,10 +79,10 @@ impl Sight {
     pub fn has_ended(&self) -> bool
         ensures ended { IsTrue result ↔ HasEnded self.now.doing }
     {
-        matches!(
-            self.doing,
-            Doing::Up(Status::Ended(_)) | Doing::Up(Status::Trapped(_))
-        )
+        match self.doing {
+            Doing::Up(status) => status.has_ended(),
+            _ => false,
+        }
     }
 }
 

@@ -30,7 +30,7 @@ impl Model for Watch {
 }
 
 impl Watch {
-    /// Of a cluster of so many processes that is to be run.
+    /// Makes the watch of a cluster of so many processes that is to be run.
     pub fn new(alloc: Global, n: usize) -> Result<Watch, AllocError>
         ensures many { IfOk result (λ watch. watch ≡ n) }
     {
@@ -76,7 +76,8 @@ impl Watch {
         Ok(())
     }
 
-    /// The failures so far, in order: by failure, the process and the interval that it had just begun. Refused where memory ran out.
+    /// Returns the failures so far, in order: by failure, the process and the interval that it had just begun. Refused where memory
+    /// ran out.
     pub fn failures<R: Wait>(&self, rt: &R, alloc: Global) -> Result<Vec<(Pid, u32)>, AllocError> {
         self.failures.lock(rt).to_vec(alloc)
     }

@@ -36,7 +36,7 @@ impl<W> Output<W> {
         }
     }
 
-    // Whether whoever reads it has closed it.
+    // Returns whether whoever reads it has closed it.
     fn is_closed(&self) -> bool {
         match self.refusal {
             Some(error) => error.kind() == ErrorKind::BrokenPipe,

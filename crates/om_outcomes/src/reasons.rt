@@ -99,7 +99,7 @@ impl Reasons {
         };
     }
 
-    /// Writes them to standard error; where that refuses, nothing comes of it.
+    /// Writes the reasons to standard error; where that refuses, nothing comes of it.
     pub fn say<R: Eprint>(&self, rt: &R) {
         if !self.text.is_empty() {
             let _ = rt.eprint(self.text.as_str());
@@ -107,20 +107,20 @@ impl Reasons {
     }
 }
 
-// The line of a text by its number, which counts from 1.
+// Returns the line of a text by its number, which counts from 1.
 fn line_of(bytes: &[u8], number: usize) -> &[u8] {
     let mut lines = bytes.split(|byte| *byte == b'\n');
     lines.nth(number.saturating_sub(1)).unwrap_or(b"")
 }
 
-// The first word of a line, where it is text.
+// Returns the first word of a line, where it is text.
 fn first_word(line: &[u8]) -> &str {
     let mut words = line.split(|byte| matches!(*byte, b' ' | b'\t' | b'\r'));
     let word = words.find(|word| !word.is_empty());
     str::from_utf8(word.unwrap_or(b"")).unwrap_or("")
 }
 
-// The start of a line, as far as it can be shown: other bytes are question marks.
+// Returns the start of a line, as far as it can be shown: other bytes are question marks.
 fn shown(alloc: Global, line: &[u8]) -> Result<String, std::alloc::AllocError> {
     let mut text = String::new(alloc);
     for byte in line.iter().take(SHOWN) {

@@ -41,12 +41,12 @@ hex_value byte =
     else if nat_le 97 byte && nat_le byte 102 then Some (byte - 87)
     else None
 
--- between packets
+-- a byte between packets
 abbrev pub step_outside : Decoding → ℕ → Decoding × Option Event
 step_outside d byte =
     if byte == 3 then (d, Some Interrupt) else if byte == 36 then (begin, None) else (d, None)
 
--- in a packet
+-- a byte in a packet
 abbrev pub step_body : Decoding → ℕ → Decoding × Option Event
 step_body d byte =
     if byte == 36 then (begin, None)
@@ -54,12 +54,12 @@ step_body d byte =
     else if byte == 125 then (record d { place = places.Escaped; total = (d.total + byte) % 256 }, None)
     else (record { place = places.Body; body = kept d.body byte; total = (d.total + byte) % 256 }, None)
 
--- behind }
+-- a byte behind }
 abbrev pub step_escaped : Decoding → ℕ → Decoding × Option Event
 step_escaped d byte =
     (record { place = places.Body; body = kept d.body (bit_xor byte 32); total = (d.total + byte) % 256 }, None)
 
--- behind #
+-- the first digit, behind #
 abbrev pub first_digit : Decoding → Option ℕ → Decoding × Option Event
 first_digit d None = (outside d, Some Garbled)
 first_digit d (Some high) = (record d { place = places.SecondDigit high }, None)

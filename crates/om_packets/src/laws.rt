@@ -2,8 +2,8 @@
 
 ghost use Rattle.om_packets.specs.Reading.{ReadsBack};
 
-/// Packets that are written one after another, with any bytes between them but 3 and `$`, are read back as they were written,
-/// and the reader stands between packets then.
+/// Proves that packets that are written one after another, with any bytes between them but 3 and `$`, are read back as they
+/// were written, and the reader stands between packets then.
 pub fn reads_back()
     ensures { ReadsBack }
 {}

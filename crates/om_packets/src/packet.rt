@@ -23,7 +23,7 @@ fn digit(value: u8) -> u8
     }
 }
 
-// The sum of bytes, modulo 256.
+// Returns the sum of bytes, modulo 256.
 fn sum_of(text: &[u8]) -> u8
     ensures { result ≡ checksum text.now }
 {

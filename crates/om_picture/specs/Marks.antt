@@ -71,7 +71,7 @@ shape_marks shape = mark_of (kind_drawn shape.glyph) shape.cut (title_entry shap
 abbrev pub log_marks : Bool → EventAt → List EventMark
 log_marks loose entry = if loose then mark_of (Some Logged) false entry else []
 
--- of an event that no round cuts; loose: its process has received something that is in memory only
+-- the marks of an event that no round cuts; loose: its process has received something that is in memory only
 abbrev pub sure_marks : Bool → Shown → EventAt → List EventMark
 sure_marks loose (shows.Refused frame) entry = mark_of (Some NotTaken) false entry
 sure_marks loose shows.Flush entry = log_marks loose entry
@@ -89,7 +89,7 @@ output_marks made fresh fate entry =
     else mark_of (Some (Stands (fresh == 0))) fate.cut entry
     ++ (if fresh == 0 then [] else mark_of (Some (Made fate.covered)) fate.cut entry)
 
--- of an event that a round may cut
+-- the marks of an event that a round may cut
 abbrev pub fated_marks : Shown → ℕ → Fate → EventAt → List EventMark
 fated_marks (shows.Run sent made ends) fresh fate entry = output_marks made fresh fate entry ++ mark_of (Some Worked) fate.cut entry
 fated_marks (shows.Resend sent) fresh fate entry = mark_of (Some Worked) fate.cut entry

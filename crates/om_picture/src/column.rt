@@ -33,7 +33,7 @@ pub(crate) struct Columns {
 }
 
 impl Columns {
-    /// No columns, behind a left side.
+    /// Makes the columns behind a left side: none yet.
     pub(crate) fn new(left: u32) -> Columns
         requires { 0 < left }
         ensures x { result.x ≡ left }
@@ -45,14 +45,15 @@ impl Columns {
         }
     }
 
-    /// The least place of the next column, of this half width.
+    /// Returns the least place of the next column, of this half width.
     pub(crate) fn least(&self, half: u32) -> u32
         ensures { result ≡ min (self.now.right + half) (2 ^ 32 - 1) }
     {
         self.right.saturating_add(half)
     }
 
-    /// The next column, of this half width, at a place or as near to it as may be. Answers where it stands.
+    /// Adds the next column, of this half width, at a place or as near to it as may be. Answers where it
+    /// stands.
     pub(crate) fn add(&mut self, place: u32, half: u32) -> u32
         requires some { 0 < half }
         requires narrow { half ≤ MOST_HALF }

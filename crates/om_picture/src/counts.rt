@@ -4,19 +4,19 @@ use crate::history::Mark;
 use crate::page::Page;
 
 impl Page {
-    /// An event of the window is counted.
+    /// Counts an event of the window.
     pub(crate) fn count_event(&mut self, on: bool) {
         if on {
             self.counts.events = self.counts.events.saturating_add(1);
         }
     }
 
-    /// An event of the window showed something.
+    /// Counts an event of the window that showed something.
     pub(crate) fn count_shown(&mut self) {
         self.counts.shown = self.counts.shown.saturating_add(1);
     }
 
-    /// A run made so many outputs and sent so many messages.
+    /// Counts so many outputs that a run made and messages that it sent.
     pub(crate) fn count_run(&mut self, on: bool, made: u64, sent: usize) {
         if on {
             self.counts.made = self.counts.made.saturating_add(made);
@@ -36,7 +36,7 @@ impl Page {
         }
     }
 
-    /// A message was refused in the window.
+    /// Counts a message that was refused in the window.
     pub(crate) fn count_refusal(&mut self) {
         self.counts.refused = self.counts.refused.saturating_add(1);
     }
@@ -47,12 +47,12 @@ impl Page {
         }
     }
 
-    /// A round was finished in the window.
+    /// Counts a round that was finished in the window.
     pub(crate) fn count_round(&mut self) {
         self.counts.rounds = self.counts.rounds.saturating_add(1);
     }
 
-    /// The outputs of a mark of the window are released, or cut.
+    /// Counts the outputs of a mark of the window as released, or cut.
     pub(crate) fn count_fate(&mut self, on: bool, mark: &Mark, cut: bool) {
         if on && mark.at.x != 0 {
             self.add_fate(mark.fresh, cut);

@@ -40,7 +40,7 @@ fn group_of(frame: &Frame) -> Group {
     }
 }
 
-// The characters of the longest word behind the lanes.
+// Returns the characters of the longest word behind the lanes.
 fn longest(recovery: DepVec, end_states: &[Option<EndState>], lengths: &[u32]) -> u32 {
     let mut longest = 0;
     for length in lengths {
@@ -56,7 +56,7 @@ fn longest(recovery: DepVec, end_states: &[Option<EndState>], lengths: &[u32]) -
 }
 
 impl Page {
-    // The right side of the lanes, whose last column ends there.
+    // Returns the right side of the lanes, whose last column ends there.
     fn right(&self, last: u32) -> u32 {
         let mut right = last;
         for lane in &self.lanes {
@@ -88,7 +88,7 @@ impl Page {
         }
     }
 
-    // The words behind a lane: its name, its state and its place in the recovery state.
+    // Writes the words behind a lane: its name, its state and its place in the recovery state.
     fn tell_lane(
         &mut self,
         p: usize,
@@ -109,7 +109,7 @@ impl Page {
         )
     }
 
-    // The words before the lanes.
+    // Writes the words before the lanes.
     fn name_lanes(&mut self) -> Result<(), AllocError> {
         for p in 0..self.lanes.len() {
             let y = self.y(p);
@@ -124,7 +124,7 @@ impl Page {
         self.say(Style::Grey, 16, AXIS, LabelContent::Line)
     }
 
-    // A stub for the frames of an event to one receiver that were never given.
+    // Draws a stub for the frames of an event to one receiver that were never given.
     fn stubs(&mut self) -> Result<(), AllocError> {
         let mut open: Option<Group> = None;
         for k in 0..self.frames.len() {
@@ -139,7 +139,7 @@ impl Page {
         }
     }
 
-    // The group with one frame more; a stub for the group where the frame is none of it.
+    // Returns the group with one frame more; draws a stub for the group where the frame is none of it.
     fn grouped(&mut self, open: Option<Group>, frame: &Frame) -> Result<Group, AllocError> {
         let Some(group) = open else {
             return Ok(group_of(frame));
@@ -179,7 +179,8 @@ impl Page {
 }
 
 impl Picture {
-    /// The whole picture, where the processes stand so in the end, and their names have so many characters.
+    /// Returns the whole picture, where the processes stand so in the end, and their names have so many
+    /// characters.
     pub fn end(
         self,
         alloc: Global,

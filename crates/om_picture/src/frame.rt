@@ -13,7 +13,7 @@ pub struct Frame {
     pub given: bool,
 }
 
-// So many frames more like this one.
+// Adds so many frames more like this one.
 fn add_few(frames: &mut Vec<Frame>, frame: Frame, few: usize) -> Result<(), AllocError> {
     for _ in 0..few {
         frames.push(frame)?;
@@ -21,7 +21,7 @@ fn add_few(frames: &mut Vec<Frame>, frame: Frame, few: usize) -> Result<(), Allo
     Ok(())
 }
 
-/// New frames, by receiver, and how many they are.
+/// Adds new frames, by receiver, and returns how many they are.
 pub fn add_frames(
     frames: &mut Vec<Frame>,
     x: u32,

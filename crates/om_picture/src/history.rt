@@ -111,21 +111,22 @@ impl History {
         Some(mark)
     }
 
-    /// The program came to its end, if it did.
+    /// Notes that the program came to its end, if it did.
     pub(crate) fn end(&mut self, ended: bool)
         ensures { Ends ended (lane_in self.old) (lane_in self.new) }
     {
         self.ended |= ended;
     }
 
-    /// An interval began, with a receipt.
+    /// Notes that an interval began, with a receipt.
     pub(crate) fn receive(&mut self, interval: u32)
         ensures { Receives interval (lane_in self.old) (lane_in self.new) }
     {
         self.interval = interval;
     }
 
-    // The place of the first receipt that is in memory only; marks are not looked at again once they are firm.
+    // Returns the place of the first receipt that is in memory only; marks are not looked at again once they are
+    // firm.
     fn first_loose(&mut self) -> Option<u32>
         ensures { lane_in self.new ≡ lane_in self.old }
     {
@@ -139,7 +140,7 @@ impl History {
         None
     }
 
-    // Up to which interval all is stored, once so many receipts more are, or all.
+    // Returns up to which interval all is stored, once so many receipts more are, or all.
     fn saved(&self, many: Option<usize>) -> u32
         ensures { result ≡ (saved many (lane_in self.now).progress).safe }
     {
@@ -154,7 +155,8 @@ impl History {
         }
     }
 
-    /// So many receipts that were in memory only are stored, the first ones, or all: the place of the first of them.
+    /// Stores so many receipts that were in memory only, the first ones, or all, and returns the place of the first
+    /// of them.
     pub(crate) fn store(&mut self, many: Option<usize>) -> Option<u32>
         ensures stores { Stores many (lane_in self.old) (lane_in self.new) }
         ensures loose { is_some result ≡ has_loose (lane_in self.old).progress }
@@ -165,7 +167,7 @@ impl History {
         if is_loose { Some(first) } else { None }
     }
 
-    /// The process is back in an interval.
+    /// Puts the process back into an interval.
     pub(crate) fn go_back(&mut self, interval: u32)
         ensures { GoesBack interval (lane_in self.old) (lane_in self.new) }
     {
@@ -175,14 +177,14 @@ impl History {
         self.firm = self.marks.len();
     }
 
-    /// The process has this place in a recovery state.
+    /// Notes that the process has this place in a recovery state.
     pub(crate) fn reach(&mut self, place: u32)
         ensures { Raises place (lane_in self.old) (lane_in self.new) }
     {
         self.reached = self.reached.max(place);
     }
 
-    /// The place of the first mark that is not settled.
+    /// Returns the place of the first mark that is not settled.
     pub(crate) fn first(&self) -> Option<u32> {
         Some(self.marks.get(self.settled)?.at.x)
     }

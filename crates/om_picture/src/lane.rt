@@ -52,7 +52,7 @@ pub struct Lane {
     pub why: Option<Answer>,
 }
 
-// The least place with this room for a word.
+// Returns the least place with this room for a word.
 fn fitted(x: u32, free: u32, extent: Option<Extent>) -> u32 {
     match extent {
         Some(extent) => x.max(free.saturating_add(4).saturating_sub(extent.shift)),
@@ -84,7 +84,7 @@ impl Lane {
         }
     }
 
-    /// Its height.
+    /// Returns the height of the lane.
     pub fn y(&self) -> u32 {
         lane_y(self.number)
     }
@@ -121,7 +121,7 @@ impl Lane {
         self.above.max(self.beside).max(self.below)
     }
 
-    /// The process is in or down from here on; 0 is before the window.
+    /// Notes that the process is in or down from here on; 0 is before the window.
     pub fn leave(
         &mut self,
         segment: &mut Vec<LaneSegment>,
@@ -140,12 +140,12 @@ impl Lane {
     }
 }
 
-/// The height of a lane.
+/// Returns the height of a lane.
 pub fn lane_y(number: u32) -> u32 {
     number.saturating_mul(64).saturating_add(112)
 }
 
-/// The place, and what stands for one before the window.
+/// Returns the place, or the left side for 0, which is before the window.
 pub fn or_left(x: u32, left: u32) -> u32 {
     if x == 0 { left } else { x }
 }

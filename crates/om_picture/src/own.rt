@@ -19,7 +19,8 @@ use std::alloc::AllocError;
 const TRAIL: u32 = 320;
 
 impl Page {
-    // The way of a refused message, if it is one to this lane; of one that was sent long ago, the end alone.
+    // Draws the way of a refused message, if it is one to this lane; of one that was sent long ago, the end
+    // alone.
     fn trail(&mut self, frame: Option<Frame>, to: Spot) -> Result<(), AllocError> {
         let Some(frame) = frame else {
             return Ok(());
@@ -55,7 +56,7 @@ impl Page {
         Ok(())
     }
 
-    // A gathering is open from the left of this failure on, if none was; 0 is before the window.
+    // Opens a gathering from the left of this failure on, if none was open; 0 is before the window.
     pub(crate) fn open(&mut self, declared: bool, x: u32) {
         if declared && self.opened.is_none() {
             self.opened = Some(if x == 0 {
@@ -66,14 +67,14 @@ impl Page {
         }
     }
 
-    // A new incarnation of a process.
+    // Begins a new incarnation of a process.
     fn begin_inc(&mut self, p: usize, inc: u32) {
         if let Some(lane) = self.lanes.get_mut(p) {
             lane.inc = inc;
         }
     }
 
-    // The interval and the incarnation of a process that is back.
+    // Writes the interval and the incarnation of a process that is back.
     fn tell_back(
         &mut self,
         on: bool,
@@ -174,7 +175,7 @@ impl Picture {
         self.shape(Glyph::Refused, step, at)
     }
 
-    // So many receipts of a process are stored, or all; that is drawn, if some were in memory only.
+    // Stores so many receipts of a process, or all, and draws that, if some were in memory only.
     fn log(
         &mut self,
         p: usize,

@@ -43,7 +43,7 @@ fn no_pieces(alloc: Global) -> Sheet {
     }
 }
 
-/// So many numbers from the first on.
+/// Returns `count` numbers from the first on.
 pub(crate) fn numbers(first: u64, count: u64) -> Numbers {
     Numbers {
         first,
@@ -53,7 +53,7 @@ pub(crate) fn numbers(first: u64, count: u64) -> Numbers {
 }
 
 impl Page {
-    /// The page of so many lanes, which begin at the left side.
+    /// Makes the page of so many lanes, which begin at the left side.
     pub(crate) fn new(alloc: Global, count: usize, left: u32) -> Result<Page, AllocError> {
         let mut lanes = Vec::new(alloc);
         let mut number: u32 = 0;
@@ -118,7 +118,7 @@ impl Page {
         }
     }
 
-    /// A place on the lane of a process.
+    /// Returns a place on the lane of a process.
     pub(crate) fn spot(&self, p: usize, x: u32) -> Spot {
         Spot {
             x,
@@ -126,7 +126,7 @@ impl Page {
         }
     }
 
-    /// New frames, and their numbers.
+    /// Makes new frames, and returns their numbers.
     pub(crate) fn make(
         &mut self,
         x: u32,
@@ -140,14 +140,14 @@ impl Page {
         Ok(numbers(first, count))
     }
 
-    /// The frame of a number, which is given now.
+    /// Gives the frame of a number, and returns it.
     pub(crate) fn give(&mut self, frame: usize) -> Option<Frame> {
         let frame = self.frames.get_mut(self.lost.saturating_add(frame))?;
         frame.given = true;
         Some(*frame)
     }
 
-    /// The process is in or down from here on.
+    /// Notes that the process is in or down from here on.
     pub(crate) fn leave(&mut self, p: usize, x: u32, stand: Stand) -> Result<(), AllocError> {
         match self.lanes.get_mut(p) {
             Some(lane) => lane.leave(&mut self.sheet.segment, x, self.left, stand),
@@ -155,7 +155,7 @@ impl Page {
         }
     }
 
-    /// All processes are down from here on, in the first round of a new start.
+    /// Notes that all processes are down from here on, in the first round of a new start.
     pub(crate) fn fall(&mut self, x: u32) -> Result<(), AllocError> {
         self.open(true, x);
         self.round = 0;
@@ -165,7 +165,7 @@ impl Page {
         Ok(())
     }
 
-    /// The process is up from here on.
+    /// Notes that the process is up from here on.
     pub(crate) fn stand_up(&mut self, p: usize, x: u32) -> Result<(), AllocError> {
         let lane = self.lane_at(p);
         let segment = &mut self.sheet.segment;
@@ -203,20 +203,20 @@ impl Page {
         self.say(Style::Small, left, ROUNDS, what)
     }
 
-    /// The height at which bands end.
+    /// Returns the height at which bands end.
     pub(crate) fn bottom(&self) -> u32 {
         count_of(self.lanes.len())
             .saturating_mul(64)
             .saturating_add(80)
     }
 
-    /// The height of a lane.
+    /// Returns the height of a lane.
     pub(crate) fn y(&self, p: usize) -> u32 {
         lane_y(self.lane_at(p).number)
     }
 }
 
-/// So many lanes, as a number of 32 bits.
+/// Returns the number of so many lanes in 32 bits, or 0 where it has more.
 pub(crate) fn count_of(lanes: usize) -> u32 {
     u32::try_from(lanes).unwrap_or(0)
 }

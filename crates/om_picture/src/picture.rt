@@ -38,7 +38,7 @@ pub struct Picture {
     pub(crate) histories: Vec<History>,
 }
 
-// The left side, behind names of so many characters.
+// Returns the left side, behind names of so many characters.
 fn left_side(longest: u32) -> u32
     ensures some { 0 < result }
     ensures most { result ≤ MOST_LEFT }
@@ -59,8 +59,8 @@ fn new_histories(alloc: Global, count: usize) -> Result<Vec<History>, AllocError
 }
 
 impl Picture {
-    /// The picture of so many processes, whose window begins at a line. `longest`: the characters of the longest name, of which at
-    /// most [`MOST_NAME`] have room.
+    /// Makes the picture of so many processes, whose window begins at a line. `longest`: the characters of the longest name, of
+    /// which at most [`MOST_NAME`] have room.
     pub fn new(
         alloc: Global,
         recovery: DepVec,
@@ -95,7 +95,7 @@ impl Picture {
         self.end_round(alloc, step, changed)
     }
 
-    // The event of a line is counted; with the first line of the window, the picture begins.
+    // Counts the event of a line; with the first line of the window, the picture begins.
     fn begin(&mut self, line: usize) -> Result<(), AllocError>
         ensures { OnOk result (ReachesWindow (sketch_of self.old) (sketch_of self.new) line) }
     {
@@ -189,7 +189,7 @@ impl Picture {
         }
     }
 
-    // The recovery state is this one from now on: whether it was another.
+    // Takes the recovery state that holds from now on, and returns whether it is another.
     fn change(&mut self, recovery: DepVec) -> bool
         ensures { sketch_of self.new ≡ sketch_of self.old }
     {
@@ -198,7 +198,7 @@ impl Picture {
         is_changed
     }
 
-    // If a round is finished, all is cut to the recovery state.
+    // Cuts all to the recovery state, if a round is finished.
     fn end_round(
         &mut self,
         alloc: Global,
@@ -213,7 +213,7 @@ impl Picture {
         Ok(())
     }
 
-    // The interval of a process.
+    // Returns the interval of a process.
     pub(crate) fn interval(&self, p: usize) -> u32 {
         match self.histories.get(p) {
             Some(history) => history.interval,
@@ -221,7 +221,7 @@ impl Picture {
         }
     }
 
-    // The place of the first mark that waits on a lane.
+    // Returns the place of the first mark that waits on a lane.
     pub(crate) fn first_waiting(&self, p: usize) -> Option<u32> {
         self.histories.get(p)?.first()
     }
@@ -305,7 +305,7 @@ impl Picture {
         history.next_covered()
     }
 
-    // The program of a process came to its end, if it did.
+    // Notes that the program of a process came to its end, if it did.
     pub(crate) fn end_program(&mut self, p: usize, ended: bool)
         requires { p < length self.old.histories.items }
         ensures turn { Turns (Ends ended) (sketch_of self.old) (sketch_of self.new) p }
@@ -315,7 +315,7 @@ impl Picture {
         history.end(ended);
     }
 
-    // An interval of a process began, with a receipt.
+    // Notes that an interval of a process began, with a receipt.
     pub(crate) fn receive(&mut self, p: usize, interval: u32)
         requires { p < length self.old.histories.items }
         ensures turn { Turns (Receives interval) (sketch_of self.old) (sketch_of self.new) p }
@@ -325,7 +325,7 @@ impl Picture {
         history.receive(interval);
     }
 
-    // So many receipts of a process are stored, or all: the place of the first that was in memory only.
+    // Stores so many receipts of a process, or all, and returns the place of the first that was in memory only.
     pub(crate) fn store(&mut self, p: usize, many: Option<usize>) -> Option<u32>
         requires { p < length self.old.histories.items }
         ensures turn { Turns (Stores many) (sketch_of self.old) (sketch_of self.new) p }
@@ -335,7 +335,7 @@ impl Picture {
         history.store(many)
     }
 
-    // A process is back in an interval.
+    // Puts a process back into an interval.
     pub(crate) fn go_back(&mut self, p: usize, interval: u32)
         requires { p < length self.old.histories.items }
         ensures { Turns (GoesBack interval) (sketch_of self.old) (sketch_of self.new) p }
@@ -344,7 +344,7 @@ impl Picture {
         history.go_back(interval);
     }
 
-    // A process has this place in a recovery state.
+    // Notes that a process has this place in a recovery state.
     pub(crate) fn learn(&mut self, p: usize, place: u32)
         requires { p < length self.old.histories.items }
         ensures { Turns (Raises place) (sketch_of self.old) (sketch_of self.new) p }
@@ -354,12 +354,12 @@ impl Picture {
     }
 }
 
-// The recovery state behind an event, if it changed.
+// Returns the recovery state behind an event, if it changed.
 pub(crate) fn state_if(changed: bool, step: &PlayedEvent) -> Option<DepVec> {
     if changed { Some(step.recovery) } else { None }
 }
 
-// The title of an event.
+// Makes the title of an event.
 pub(crate) fn title_of(step: &PlayedEvent, more: TitleDetail) -> Title
     ensures { (at : Spot) → title_entry result at ≡ step_entry step.now at }
 {

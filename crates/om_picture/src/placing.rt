@@ -21,7 +21,7 @@ const REFUSED: u32 = 8;
 
 pub(crate) const FAILURE: u32 = 11;
 
-// Half the width of the column of what an event shows.
+// Returns half the width of the column of what an event shows.
 fn half_of(shown: Shown) -> u32
     ensures some { 0 < result }
     ensures narrow { result ≤ MOST_HALF }
@@ -37,7 +37,7 @@ fn half_of(shown: Shown) -> u32
     }
 }
 
-// Room for so many characters.
+// Returns room for so many characters.
 fn extent(shift: u32, characters: u32) -> Option<Extent> {
     Some(Extent {
         shift,
@@ -45,7 +45,7 @@ fn extent(shift: u32, characters: u32) -> Option<Extent> {
     })
 }
 
-// Room for the words of a run.
+// Returns room for the words of a run.
 fn run_words(step: &PlayedEvent, ends: Option<Status>) -> Wanted {
     let above = if step.fresh == 0 {
         None
@@ -63,7 +63,7 @@ fn run_words(step: &PlayedEvent, ends: Option<Status>) -> Wanted {
     }
 }
 
-// Room for a number beside a lane.
+// Returns room for a number beside a lane.
 fn number_beside(shift: u32, number: u32) -> Wanted {
     Wanted {
         above: None,
@@ -72,7 +72,7 @@ fn number_beside(shift: u32, number: u32) -> Wanted {
     }
 }
 
-// Room for a word below a lane.
+// Returns room for a word below a lane.
 fn word_below(characters: u32) -> Wanted {
     Wanted {
         above: None,
@@ -81,7 +81,7 @@ fn word_below(characters: u32) -> Wanted {
     }
 }
 
-// Room for the words of a process that is back.
+// Returns room for the words of a process that is back.
 fn back_words(interval: u32, inc: u32) -> Wanted {
     Wanted {
         above: None,
@@ -90,7 +90,7 @@ fn back_words(interval: u32, inc: u32) -> Wanted {
     }
 }
 
-// Room for the words of what an event shows, but for a refusal.
+// Returns room for the words of what an event shows, but for a refusal.
 fn words_of(step: &PlayedEvent, shown: Shown) -> Wanted {
     match shown {
         Shown::Run { ends, .. } => run_words(step, ends),
@@ -100,7 +100,7 @@ fn words_of(step: &PlayedEvent, shown: Shown) -> Wanted {
     }
 }
 
-/// The number of a lane.
+/// Returns the number of a lane.
 pub(crate) fn lane_number(p: usize) -> u32
     ensures { result ≡ lane_number p }
 {
@@ -152,7 +152,7 @@ impl Picture {
         }
     }
 
-    // The last column; 0 before the window.
+    // Returns the last column; 0 before the window.
     fn here(&self) -> u32
         ensures { result ≡ (if self.now.on then self.now.columns.x else 0) }
     {
@@ -177,7 +177,7 @@ impl Picture {
         Ok(Spot { x, lane })
     }
 
-    // The same, by what it shows.
+    // Returns the place of an event of a process, by what it shows.
     fn next_place(&mut self, p: usize, step: &PlayedEvent, shown: Shown) -> Result<u32, AllocError>
         ensures { IfOk result (λ x. Places (is_shown shown) x (sketch_of self.old) (sketch_of self.new)) }
     {
@@ -191,7 +191,7 @@ impl Picture {
         }
     }
 
-    // The column of a refusal, with its word unless that was just told.
+    // Adds the column of a refusal, with its word unless that was just told.
     fn why_column(&mut self, p: usize, step: &PlayedEvent) -> Result<u32, AllocError>
         ensures { IfOk result (λ x. MovesTo x (sketch_of self.old) (sketch_of self.new)) }
     {
@@ -205,7 +205,7 @@ impl Picture {
         Ok(x)
     }
 
-    // The middle of the next column, with room for the words of an event of a process.
+    // Adds the next column, with room for the words of an event of a process, and returns its middle.
     fn column(
         &mut self,
         p: usize,

@@ -47,7 +47,7 @@ impl Page {
         Ok(place)
     }
 
-    // No gathering is open any more; within the window, its round is told, up to the right side.
+    // Closes the gathering that is open; within the window, its round is told, up to the right side.
     fn close(
         &mut self,
         on: bool,
@@ -66,7 +66,7 @@ impl Page {
         Ok(())
     }
 
-    // The band, the name, the recovery line and the recovery state of a round.
+    // Draws the band, the name, the recovery line and the recovery state of a round.
     fn tell_round(
         &mut self,
         right: u32,
@@ -88,7 +88,7 @@ impl Page {
         self.tell_foot(opened, state)
     }
 
-    // The recovery state of a round below its band, where there is room.
+    // Writes the recovery state of a round below its band, where there is room.
     fn tell_foot(&mut self, opened: u32, state: DepVec) -> Result<(), AllocError> {
         if opened < self.foot {
             return Ok(());
@@ -102,7 +102,7 @@ impl Page {
 }
 
 impl Picture {
-    // All is cut to the recovery state.
+    // Cuts all to the recovery state, as a round is finished.
     pub(crate) fn finish(
         &mut self,
         alloc: Global,

@@ -38,12 +38,12 @@ pub(crate) fn fate_now(next: &Next, finished: bool) -> FateNow
     }
 }
 
-// The style of the words of a mark.
+// Returns the style of the words of a mark.
 fn style(fate: FateNow, style: Style) -> Style {
     if fate.cut { Style::Grey } else { style }
 }
 
-// A mark of a form, at the place of this one.
+// Makes a mark of a form, at the place of this one.
 fn shape_of(glyph: Glyph, mark: &Mark, fate: FateNow) -> Shape
     ensures glyph { result.glyph ≡ glyph }
     ensures cut { result.cut ≡ fate.cut }
@@ -58,7 +58,7 @@ fn shape_of(glyph: Glyph, mark: &Mark, fate: FateNow) -> Shape
     }
 }
 
-// The form of a mark.
+// Returns the form of a mark.
 fn glyph_of(shown: Shown, fate: FateNow) -> Glyph
     ensures { kind_drawn result ≡ Some (kind_late shown (fate_in fate)) }
 {
@@ -83,7 +83,8 @@ fn has_outputs(shown: Shown) -> bool
 }
 
 impl Page {
-    // The place of a mark that is kept, where it has outputs that were held before the event that stands there.
+    // Returns the place of a mark that is kept, where it has outputs that were held before the event that
+    // stands there.
     fn held_at(&self, mark: &Mark, at: Spot) -> Option<u32>
         ensures { is_some result ≡ is_elsewhere at.x (held_of mark.now) }
     {
@@ -93,7 +94,7 @@ impl Page {
         None
     }
 
-    // The words of a mark whose fate is known, and the message of a receipt.
+    // Writes the words of a mark whose fate is known, and draws the message of a receipt.
     fn tell(&mut self, mark: &Mark, fate: FateNow) -> Result<(), AllocError> {
         match mark.shown {
             Shown::Receipt { frame, interval } => { self.tell_receipt(mark, fate, frame, interval) }
@@ -173,7 +174,7 @@ impl Picture {
         self.add_form(glyph_of(mark.shown, fate), mark, fate)
     }
 
-    // The stem of the outputs of a mark, and its head, if they were not all made before.
+    // Draws the stem of the outputs of a mark, and its head, if they were not all made before.
     fn add_outputs(&mut self, mark: &Mark, fate: FateNow) -> Result<(), AllocError>
         ensures { OnOk result (Settles (sketch_of self.old) (sketch_of self.new)
             (output_marks (made_by mark.now.shown) mark.now.fresh (fate_in fate) (title_entry mark.now.title mark.now.at))) }
@@ -190,7 +191,7 @@ impl Picture {
         self.add_form(Glyph::Head { released }, mark, fate)
     }
 
-    // A form at the place of a mark.
+    // Draws a form at the place of a mark.
     fn add_form(&mut self, glyph: Glyph, mark: &Mark, fate: FateNow) -> Result<(), AllocError>
         ensures { OnOk result (Settles (sketch_of self.old) (sketch_of self.new)
             (mark_of (kind_drawn glyph) fate.cut (title_entry mark.now.title mark.now.at))) }
@@ -214,7 +215,7 @@ impl Picture {
         Ok(())
     }
 
-    // The same for a lane: the place of the first output that was held and is released.
+    // Settles a lane as `keep` does, and returns the place of the first output that was held and is released.
     fn keep_lane(
         &mut self,
         p: usize,
@@ -283,7 +284,7 @@ impl Picture {
     }
 }
 
-// The place of a process in a recovery state.
+// Returns the place of a process in a recovery state.
 pub(crate) fn place_of(recovery: DepVec, p: usize) -> u32
     ensures { result ≡ slice_index recovery p }
 {

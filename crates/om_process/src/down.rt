@@ -23,7 +23,7 @@ pub struct Down {
 }
 
 impl ProcCore {
-    /// The process fails: all that is volatile is lost.
+    /// Fails the process: all that is volatile is lost.
     pub fn fail(self) -> Down
         ensures pid { result.pid ≡ self.own }
         ensures n { result.n ≡ cluster_size self.now }
@@ -127,7 +127,7 @@ impl Down {
         }
     }
 
-    // The process as it was right after receipt `x`, from a checkpoint of its own.
+    // Replays the process to what it was right after receipt `x`, from a checkpoint of its own.
     fn replayed<S: Stable>(
         &self,
         alloc: Global,

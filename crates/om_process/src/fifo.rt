@@ -33,7 +33,7 @@ impl<T: Drop> Fifo<T> {
         }
     }
 
-    // The entries of a list.
+    // Makes a queue of the entries of a list.
     pub(crate) fn of(items: Vec<T>) -> Fifo<T>
         ensures { result ≡ items.items }
     {

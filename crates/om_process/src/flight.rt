@@ -67,7 +67,7 @@ impl ProcCore {
         Ok(())
     }
 
-    // The interval of the first receipt of the log, where there is one.
+    // Returns the interval of the first receipt of the log, where there is one.
     fn first_logged(&self) -> u32
         ensures { self.now.log ≢ [] → result ≡ first_logged self.now }
     {
@@ -77,7 +77,7 @@ impl ProcCore {
         }
     }
 
-    // A checkpoint of now, where one is due.
+    // Spells a checkpoint of now, where one is due.
     fn checkpoint_due(&self, alloc: Global, is_due: bool) -> Result<Option<Spelled>, AllocError>
         ensures { IfOk result (λ checkpoint. CarriesCheckpoint is_due self.now checkpoint) }
     {

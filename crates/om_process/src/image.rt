@@ -1,3 +1,5 @@
+//! Images of programs.
+
 ghost use Rattle.std.specs.Prelude.{◌≡◌, IfOk};
 ghost use Rattle.om_process.specs.Images.{program_of};
 
@@ -16,7 +18,7 @@ pub struct Image {
 }
 
 impl Image {
-    /// The same image, in memory of its own. Refused only where memory ran out.
+    /// Copies the image into memory of its own. Refused only where memory ran out.
     pub fn copy(&self, alloc: Global) -> Result<Image, AllocError>
         ensures { IfOk result (λ copy. program_of copy ≡ program_of self.now) }
     {

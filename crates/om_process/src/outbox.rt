@@ -13,7 +13,7 @@ use om_interval::{Pid, Tag};
 use std::alloc::{AllocError, Global};
 
 impl ProcCore {
-    /// The messages to a process that are kept, with their numbers.
+    /// Returns the messages to a process that are kept, with their numbers.
     pub fn outbox(&self, to: Pid) -> &[Sent]
         requires { to < cluster_size self.now.now }
         ensures kept { result.now ≡ numbered sent_as (messages_to self.now to).first (messages_to self.now to).entries }
@@ -23,7 +23,7 @@ impl ProcCore {
         self.outbox[to.index()].as_slice()
     }
 
-    /// The outputs numbered `seq` and above that are kept, with their numbers.
+    /// Returns the outputs numbered `seq` and above that are kept, with their numbers.
     pub fn outputs_from(&self, seq: u64) -> &[Made]
         ensures kept { result.now ≡ numbered made_as (max (outputs_of self.now).first seq)
             (drop (seq - (outputs_of self.now).first) (outputs_of self.now).entries) }
@@ -33,8 +33,8 @@ impl ProcCore {
         self.outputs.above(seq)
     }
 
-    /// The `k`-th of the messages to a process that are kept, tagged with the process's present incarnation and the interval
-    /// in which it was sent; `None` where there are no more than `k`.
+    /// Copies the `k`-th of the messages to a process that are kept, tagged with the process's present incarnation and the
+    /// interval in which it was sent; `None` where there are no more than `k`.
     pub fn frame(&self, alloc: Global, to: Pid, k: usize) -> Result<Option<Message>, AllocError>
         requires { to < cluster_size self.now.now }
         ensures frame { IfOk result (λ frame. frame ≡ frame_at self.now to k) }

@@ -1,3 +1,5 @@
+//! A process that is up, and its reads.
+
 ghost use Rattle.std.specs.Prelude.{◌≡◌, slice_index, sum};
 ghost use Rattle.om_process.specs.Core.{AreLast, cluster_size, move_of, status_of};
 ghost use Rattle.om_process.specs.Starting.{IsPlace};
@@ -79,7 +81,7 @@ impl ProcCore {
         plan_at(&self.machine, &self.sent, self.machine.peek()).status()
     }
 
-    /// The interval that the process is in.
+    /// Returns the interval that the process is in.
     pub fn interval(&self) -> u32
         ensures interval { result ≡ self.now.now.interval }
         ensures log { AreLast result self.now.log }
@@ -87,7 +89,7 @@ impl ProcCore {
         self.interval
     }
 
-    /// The direct dependencies of that interval.
+    /// Returns the direct dependencies of the interval that the process is in.
     pub fn vec(&self) -> &DepVec
         ensures vec { result.now ≡ self.now.now.vec }
         ensures own { slice_index result.now self.now.own ≡ self.now.now.interval }
@@ -111,28 +113,28 @@ impl ProcCore {
         self.made
     }
 
-    /// The incarnation.
+    /// Returns the incarnation of the process.
     pub fn inc(&self) -> u32
         ensures { result ≡ self.now.inc }
     {
         self.inc
     }
 
-    /// The number of the last round of recovery that the process knows.
+    /// Returns the number of the last round of recovery that the process knows.
     pub fn round(&self) -> u32
         ensures { result ≡ self.now.round }
     {
         self.round
     }
 
-    /// The machine.
+    /// Returns the machine of the process.
     pub fn machine(&self) -> &Machine
         ensures { result.now ≡ self.now.now.machine }
     {
         &self.machine
     }
 
-    /// The rows that the manager is still to be told of.
+    /// Returns the rows that the manager is still to be told of.
     pub fn pending(&self) -> &[PendingRow]
         ensures { result.now ≡ self.now.pending }
     {

@@ -56,7 +56,7 @@ impl Model for Messages {
 }
 
 impl Messages {
-    /// No messages yet.
+    /// Makes a queue of no messages yet.
     pub fn new(alloc: Global) -> Messages
         ensures { result ≡ empty_queue }
     {
@@ -66,7 +66,7 @@ impl Messages {
         }
     }
 
-    /// The messages of a queue of a checkpoint that ends at the number `stop`.
+    /// Makes the messages of a queue of a checkpoint that ends at the number `stop`.
     pub fn of(alloc: Global, queue: Queue, stop: u32) -> Result<Messages, AllocError>
         requires { queue_end (queue_record queue) ≡ stop }
         ensures { IfOk result (λ messages. messages ≡ queue_record queue) }
@@ -88,7 +88,7 @@ impl Messages {
         })
     }
 
-    /// The messages, with their numbers.
+    /// Returns the messages, with their numbers.
     pub fn as_slice(&self) -> &[Sent]
         ensures { result.now ≡ numbered sent_as self.now.first self.now.entries }
     {
@@ -119,7 +119,7 @@ impl Messages {
         self.first += gone as u32;
     }
 
-    /// The messages as a queue of a checkpoint.
+    /// Copies the messages into a queue of a checkpoint.
     pub fn queue(&self, alloc: Global) -> Result<Queue, AllocError>
         ensures { IfOk result (λ queue. queue_record queue ≡ self.now) }
     {
@@ -160,7 +160,7 @@ impl Model for Outputs {
 }
 
 impl Outputs {
-    /// No outputs yet.
+    /// Makes a queue of no outputs yet.
     pub fn new(alloc: Global) -> Outputs
         ensures { result ≡ empty_queue }
     {
@@ -170,7 +170,7 @@ impl Outputs {
         }
     }
 
-    /// The outputs of a queue of a checkpoint.
+    /// Makes the outputs of a queue of a checkpoint.
     pub fn of(alloc: Global, queue: Queue) -> Result<Outputs, AllocError>
         requires { queue_end (queue_record queue) ≤ LAST_OUTPUT }
         ensures { IfOk result (λ outputs. outputs ≡ queue_record queue) }
@@ -192,7 +192,7 @@ impl Outputs {
         })
     }
 
-    /// The outputs numbered `seq` and above, with their numbers.
+    /// Returns the outputs numbered `seq` and above, with their numbers.
     pub fn above(&self, seq: u64) -> &[Made]
         ensures { result.now ≡ numbered made_as (max self.now.first seq) (drop (seq - self.now.first) self.now.entries) }
     {
@@ -224,7 +224,7 @@ impl Outputs {
         self.first += gone;
     }
 
-    /// The outputs as a queue of a checkpoint.
+    /// Copies the outputs into a queue of a checkpoint.
     pub fn queue(&self, alloc: Global) -> Result<Queue, AllocError>
         ensures { IfOk result (λ queue. queue_record queue ≡ self.now) }
     {

@@ -15,7 +15,7 @@ use crate::status::Status;
 use om_format::{Receipt, decode_receipt};
 use std::alloc::{AllocError, Global};
 
-// The receipt that these bytes spell, which names interval `y`.
+// Reads the receipt that these bytes spell, which names interval `y`.
 fn receipt_at(alloc: Global, y: u32, bytes: &[u8]) -> Result<Receipt, ReplayFault>
     ensures found { IfOk result (λ r. SpellsReceipt (receipt_record r) bytes.now) }
     ensures named { IfOk result (λ r. r.interval ≡ y) }
@@ -116,7 +116,7 @@ impl ProcCore {
     }
 }
 
-// The least interval above `after` and at or below `x` that none of these rows is of, where they ascend between the two. A
+// Returns the least interval above `after` and at or below `x` that none of these rows is of, where they ascend between the two. A
 // store of which nothing is known may find rows of any intervals.
 pub(crate) fn missing(after: u32, x: u32, found: &Vec<(u32, Vec<u8>)>) -> Option<u32>
     ensures gapless { IfNone result (AreGapless after (rows_of found.now.items)) }

@@ -74,7 +74,7 @@ pub(crate) fn damaged(y: u32, error: DecodeError) -> ReplayFault
     }
 }
 
-// The checkpoint of interval `c` that these bytes spell.
+// Reads the checkpoint of interval `c` that these bytes spell.
 fn checkpoint_at(alloc: Global, c: u32, bytes: &[u8]) -> Result<Checkpoint, ReplayFault>
     ensures found { IfOk result (λ checkpoint. IsSpelled (checkpoint_record checkpoint) bytes.now) }
     ensures named { IfOk result (λ checkpoint. checkpoint.head.interval ≡ c) }
@@ -91,7 +91,7 @@ fn checkpoint_at(alloc: Global, c: u32, bytes: &[u8]) -> Result<Checkpoint, Repl
     }
 }
 
-// The checkpoint with which a replay to `x` begins.
+// Reads the checkpoint with which a replay to `x` begins.
 pub(crate) fn beginning<S: Stable>(
     alloc: Global,
     store: &mut S,
@@ -112,7 +112,7 @@ pub(crate) fn beginning<S: Stable>(
 }
 
 impl ProcCore {
-    // The process as it was right after receipt `x`, from this checkpoint.
+    // Replays the process from this checkpoint to what it was right after receipt `x`.
     pub(crate) fn replay_from<S: Stable>(
         alloc: Global,
         store: &mut S,
@@ -145,8 +145,8 @@ impl ProcCore {
         Ok(core)
     }
 
-    /// The process as it was right after receipt `x`, from the effective checkpoint of `x` and the receipts after it; where
-    /// the checkpoint is that of `x`, as the checkpoint says. Its incarnation and its round are 0.
+    /// Replays the process to what it was right after receipt `x`, from the effective checkpoint of `x` and the receipts
+    /// after it; where the checkpoint is that of `x`, it is as the checkpoint says. Its incarnation and its round are 0.
     ///
     /// Refused, in this order, with `NoCheckpoint`, with `Damaged` for the checkpoint, with the least `MissingReceipt`, and
     /// then for each receipt ascending with `Damaged` and `Mismatch`; with `Fault` and `Memory` where they arise. The

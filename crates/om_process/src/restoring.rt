@@ -14,7 +14,7 @@ use om_machine::Machine;
 use std::alloc::{AllocError, Global};
 
 impl ProcCore {
-    // The process of a checkpoint, which knows of no failure.
+    // Makes the process of a checkpoint, which knows of no failure.
     pub(crate) fn restored(alloc: Global, checkpoint: Checkpoint) -> Result<ProcCore, AllocError>
         ensures own { IfOk result (λ core. core.own ≡ checkpoint.head.pid) }
         ensures now { IfOk result (λ core. core.now ≡ process_of (checkpoint_record checkpoint)) }
@@ -46,7 +46,7 @@ impl ProcCore {
     }
 }
 
-// The machine of a checkpoint.
+// Makes the machine of a checkpoint.
 fn machine_of(alloc: Global, checkpoint: &Checkpoint) -> Result<Machine, AllocError>
     ensures { IfOk result (λ machine. machine ≡ (process_of (checkpoint_record checkpoint.now)).machine) }
 {
@@ -58,7 +58,7 @@ fn machine_of(alloc: Global, checkpoint: &Checkpoint) -> Result<Machine, AllocEr
     }
 }
 
-// The queues of a checkpoint, which end at these numbers, as messages.
+// Makes messages of the queues of a checkpoint, which end at these numbers.
 fn outbox_of(alloc: Global, kept: Vec<Queue>, stops: &[u32]) -> Result<Vec<Messages>, AllocError>
     requires { map queue_end (map queue_record kept.items) ≡ stops.now }
     ensures { IfOk result (λ outbox. outbox.items ≡ map queue_record kept.items) }

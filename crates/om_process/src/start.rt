@@ -113,7 +113,7 @@ impl ProcCore {
         Ok(core)
     }
 
-    // The process at its start, which nothing is stored of.
+    // Makes the process at its start, which nothing is stored of.
     fn at_start(
         alloc: Global,
         image: &[u8],
@@ -136,7 +136,7 @@ impl ProcCore {
         Ok(ProcCore::fresh(alloc, machine, pid, n)?)
     }
 
-    // A process with this machine that has received nothing.
+    // Makes a process with this machine that has received nothing.
     fn fresh(alloc: Global, machine: Machine, pid: Pid, n: usize) -> Result<ProcCore, AllocError>
         requires place { pid < n }
         requires size { n ≤ MAX_PROCESSES }
@@ -170,7 +170,7 @@ impl ProcCore {
     }
 }
 
-// So many queues of no messages.
+// Makes `n` queues of no messages.
 fn empty_outbox(alloc: Global, n: usize) -> Result<Vec<Messages>, AllocError>
     ensures { IfOk result (λ outbox. outbox.items ≡ replicate n empty_queue) }
 {

@@ -127,7 +127,7 @@ impl ProcCore {
         store.put_checkpoint(alloc, self.interval, &bytes)
     }
 
-    // A checkpoint of now, with its row.
+    // Spells a checkpoint of now, with its row.
     pub(crate) fn spelled_now(&self, alloc: Global) -> Result<Spelled, AllocError>
         ensures { IfOk result (λ s. IsCheckpointOf self.now s) }
     {
@@ -138,7 +138,7 @@ impl ProcCore {
         })
     }
 
-    // The row of a checkpoint of now.
+    // Returns the row of a checkpoint of now.
     fn row(&self) -> PendingRow
         ensures { result ≡ checkpoint_row self.now }
     {
@@ -150,7 +150,7 @@ impl ProcCore {
         }
     }
 
-    // The process as a checkpoint.
+    // Returns the process as a checkpoint.
     fn picture(&self, alloc: Global) -> Result<Checkpoint, AllocError>
         ensures { IfOk result (λ c. IsOf self.now.own self.now.now (checkpoint_record c)) }
     {
@@ -178,7 +178,7 @@ impl ProcCore {
     }
 }
 
-// The first k receipts of a log, or all where it is shorter.
+// Returns the first `k` receipts of a log, or all where it is shorter.
 pub(crate) fn first_of(log: &[Logged], k: usize) -> &[Logged]
     ensures { result.now ≡ take k log.now }
 {
@@ -188,7 +188,7 @@ pub(crate) fn first_of(log: &[Logged], k: usize) -> &[Logged]
     }
 }
 
-// The bytes of each receipt of the log.
+// Returns the bytes of each receipt of the log.
 pub(crate) fn spelled(alloc: Global, log: &[Logged]) -> Result<Vec<Vec<u8>>, AllocError>
     ensures { IfOk result (λ recs. SpellLog (map logged_record log.now) (bytes_of recs.items)) }
 {
@@ -226,7 +226,7 @@ fn add_rows(rows: &mut Vec<PendingRow>, log: &[Logged])
     }
 }
 
-// The messages as queues of a checkpoint.
+// Returns the messages as queues of a checkpoint.
 fn queues_of(alloc: Global, outbox: &Vec<Messages>) -> Result<Vec<Queue>, AllocError>
     ensures { IfOk result (λ queues. map queue_record queues.items ≡ outbox.now.items) }
 {

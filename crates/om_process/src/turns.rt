@@ -32,7 +32,7 @@ pub struct Ran {
     pub refused: u64,
 }
 
-// A body of bytes of memory.
+// Copies bytes of memory into a body.
 fn copied(alloc: Global, machine: &Machine, addr: u32, len: u32) -> Result<Body, AllocError>
     requires { IsBuffer machine.now addr len }
     ensures bytes { IfOk result (λ body. body ≡ slice_range machine.now.memory addr (addr + len)) }
@@ -136,7 +136,7 @@ impl ProcCore {
         }
     }
 
-    // One turn at this event of the machine, or what it is about to do where there is none.
+    // Takes one turn at this event of the machine, or returns what it is about to do where there is none.
     fn turn(&mut self, alloc: Global, event: Event) -> Result<Option<Status>, AllocError>
         requires at { (next_of self.old.now.machine).0 ≡ event }
         requires stands { event ≢ Event.Went }

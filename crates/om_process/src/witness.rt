@@ -1,3 +1,5 @@
+//! What a process did, as far as it was not rolled back.
+
 /// What a process did, but for what was rolled back: by its image it is determined.
 #[derive(Debug, Drop)]
 pub struct Witness {

@@ -75,7 +75,7 @@ fn reads_text(request: Request<'_>) -> bool
     }
 }
 
-// The same over the whole text of an input.
+// Answers a request over the whole text of an input, which is read first.
 fn answer_over<
     R: Threads + Wait + Clock + Eprint + Copy + Send + Sync + 'static,
     I: Read,
@@ -137,7 +137,7 @@ fn answer_from<
     (ended(&output, outcome), output.to)
 }
 
-// How an answer ended that was written to it.
+// Returns how an answer ended that was written to it.
 fn ended<W>(output: &Output<W>, outcome: Result<(), DebugError>) -> Result<(), Failure>
     ensures { IsEnd outcome result }
 {

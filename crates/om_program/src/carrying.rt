@@ -130,7 +130,7 @@ fn carry_out<R: Threads + Wait + Clock + Eprint + Copy + Send + Sync + 'static>(
     outcome
 }
 
-// What may be done about a fault. Of a stream, a file or a store that is named already nothing else is said.
+// Advises what may be done about a fault. Of a stream, a file or a store that is named already nothing else is said.
 fn advise(reasons: &mut Reasons, error: CommandError) {
     let is_named = matches!(
         error,

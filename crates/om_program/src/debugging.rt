@@ -71,7 +71,7 @@ pub(crate) fn debug_file<R: Threads + Wait + Copy + Send + 'static, W: Write>(
     outcome
 }
 
-// The same of the bytes that the file and its log hold.
+// Answers packets about the process whose store is in the bytes that the file and its log hold.
 fn debug_bytes<R: Threads + Wait + Copy + Send + 'static, W: Write>(
     rt: &HostRuntime,
     threads: &R,
@@ -128,7 +128,7 @@ fn debug_given<I: Read, P: Wish, W: Write>(
     debug_all(alloc, &symbols, input, packets, writer)
 }
 
-// The files that are given, each for its program.
+// Returns the files that are given, each for its program.
 fn symbols_of(alloc: Global, given: &[Given<'_>]) -> Result<Vec<Symbols>, AllocError>
     ensures { IfOk result (λ symbols. names_of symbols.items ≡ names_given given.now) }
 {

@@ -100,7 +100,8 @@ fn write_new(rt: &HostRuntime, path: &str, bytes: &[u8]) -> io::Result<()> {
     file.write_all(bytes)
 }
 
-// Nothing may have the name of the first witness: what comes of a long exploration is not refused at its end.
+// Refuses where something has the name of the first witness: what comes of a long exploration is not refused at
+// its end.
 fn refuse_taken(rt: &HostRuntime, prefix: &str, reasons: &mut Reasons) -> Result<(), CommandError>
     ensures { IfErr result (λ error. error ≡ CommandError.CannotWrite) }
 {

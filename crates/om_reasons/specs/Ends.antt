@@ -14,7 +14,7 @@ abbrev pub status_line : List ℕ → Status → List ℕ
 status_line name (Ended code) = name ++ codes ": ended " ++ decimal code ++ codes "\n"
 status_line name _ = []
 
--- the same of a process that does this
+-- the line of a process that does this, where it has ended, and nothing else
 abbrev pub doing_line : List ℕ → Doing → List ℕ
 doing_line name (Up status) = status_line name status
 doing_line name _ = []

@@ -31,7 +31,7 @@ fn push_ends(text: &mut String, programs: &Programs, sights: &[Sight]) -> Result
     Ok(())
 }
 
-// The name of a process, and none where there is no such process.
+// Returns the name of a process, and an empty one where there is no such process.
 fn name_in(programs: &Programs, p: usize) -> &str
     ensures { result.now ≡ name_at programs.now p }
 {

@@ -5,7 +5,7 @@ ghost use Rattle.om_interval.specs.Vectors.{IsBelow};
 
 use om_interval::{DepVec, Pid};
 
-/// The number of one process.
+/// Returns the number of one process.
 pub fn number_of(numbers: &[u32], pid: Pid) -> u32
     requires { pid < length numbers.now }
     ensures { result ≡ slice_index numbers.now pid }

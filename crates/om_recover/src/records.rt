@@ -1,3 +1,5 @@
+//! The records of a cluster, and its recovery state.
+
 ghost use Rattle.std.specs.Prelude.{◌≡◌, ℕ, ◌+◌, ◌<◌, ◌≤◌, ◌↔◌, length, replicate, slice_index, IfOk, IsTrue};
 ghost use Rattle.om_interval.specs.Vectors.{IsBelow};
 ghost use Rattle.om_interval.specs.declared.pid.TheConstants.{MAX_PROCESSES};
@@ -40,7 +42,7 @@ impl Model for Records {
 }
 
 impl Records {
-    /// The records of `n` processes at their start: checkpoint 0 of each.
+    /// Makes the records of `n` processes at their start: checkpoint 0 of each. Refused only where memory ran out.
     pub fn new(alloc: Global, n: usize) -> Result<Records, AllocError>
         requires some { 1 ≤ n }
         requires within { n ≤ MAX_PROCESSES }
@@ -56,7 +58,7 @@ impl Records {
         })
     }
 
-    /// The number of processes, from 1 to the limit.
+    /// Returns the number of processes, from 1 to the limit.
     pub fn n(&self) -> usize
         ensures processes { result ≡ length self.now.state }
         ensures some { 1 ≤ result }
@@ -151,7 +153,7 @@ impl Records {
         Ok(Note::Noted { raised })
     }
 
-    /// The recovery state: the greatest recoverable state of the records.
+    /// Returns the recovery state: the greatest recoverable state of the records.
     pub fn recovery(&self) -> DepVec
         ensures state { result ≡ self.now.state }
         ensures sound { IsSound self.now }
@@ -159,7 +161,7 @@ impl Records {
         self.state
     }
 
-    /// The checkpoint that is used for the process's place of the recovery state.
+    /// Returns the interval of the checkpoint that is used for the process's place of the recovery state.
     pub fn effective(&self, pid: Pid) -> u32
         requires { pid < length self.now.state }
         ensures { IsEffective self.now.rows pid (slice_index self.now.state pid) result }

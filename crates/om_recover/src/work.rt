@@ -1,3 +1,5 @@
+//! What searches did, in proofs alone.
+
 ghost use Rattle.std.specs.Prelude.{◌≡◌, ◌<◌, List, [], ◌∷◌, length};
 ghost use Rattle.std.specs.Borrow.{ftrue};
 ghost use Rattle.std.specs.Coded.{coded_list};
@@ -19,7 +21,7 @@ impl Model for Work {
 }
 
 impl Work {
-    /// Work of which nothing is done yet.
+    /// Makes work of which nothing is done yet.
     pub fn new() -> Work
         ensures { result.attempts ≡ [] }
     {

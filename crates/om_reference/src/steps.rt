@@ -60,7 +60,7 @@ pub fn agrees_with_m_alone(alloc: Global, line: &str) -> Result<bool, AllocError
     Ok(goes && traps)
 }
 
-// The machines before and after a line's step, or `None` where the line has another form.
+// Reads the machines before and after a line's step, or `None` where the line has another form.
 fn machines(alloc: Global, line: &str, ext: Ext) -> Result<Option<(Machine, Machine)>, AllocError> {
     let fields: Vec<&str> = line.split(' ').collect(alloc)?;
     let [word, _, pc, regs, data, next_pc, reg, bytes] = fields.as_slice() else {
@@ -106,7 +106,7 @@ impl Values {
         })
     }
 
-    // The state before the step.
+    // Reads the state before the step.
     fn begin(&mut self, word: &str, pc: &str, regs: &str, data: &str) -> Option<()> {
         for (k, reg) in self.regs.iter_mut().enumerate() {
             *reg = number(regs.get(k * DIGITS..(k + 1) * DIGITS)?)?;
@@ -119,7 +119,7 @@ impl Values {
         Some(())
     }
 
-    // The state after the step: pc, the register that changed, and the bytes of memory that changed.
+    // Reads the state after the step: pc, the register that changed, and the bytes of memory that changed.
     fn end(&mut self, pc: &str, reg: &str, bytes: &str) -> Option<()> {
         self.pc = number(pc)?;
         if let Some((name, value)) = reg.split_once('=') {
@@ -133,7 +133,7 @@ impl Values {
         Some(())
     }
 
-    // The bytes of memory from an address on, or `None` where they don't lie in it.
+    // Returns the bytes of memory from an address on, or `None` where they don't lie in it.
     fn bytes(&mut self, address: usize, len: usize) -> Option<&mut [u8]>
         ensures { IfSome result (λ bytes. length bytes.now ≡ len) }
     {
@@ -144,7 +144,7 @@ impl Values {
         Some(&mut self.memory[address..end])
     }
 
-    // A machine in this state, or `None` where no machine has it.
+    // Makes a machine in this state, or `None` where no machine has it.
     fn machine(&self, alloc: Global, count: u64, ext: Ext) -> Result<Option<Machine>, AllocError> {
         if self.pc % 4 != 0 || self.memory.len() != MEMORY_BYTES {
             return Ok(None);
@@ -156,7 +156,7 @@ impl Values {
     }
 }
 
-// The number that hexadecimal digits tell.
+// Reads the number that hexadecimal digits tell.
 fn number(digits: &str) -> Option<u32> {
     u32::from_str_radix(digits, 16).ok()
 }

@@ -33,7 +33,7 @@ pub fn agrees_with_m_alone(alloc: Global, line: &str) -> Result<bool, AllocError
     }
 }
 
-// The word and the text of a line.
+// Returns the word and the text of a line.
 fn parts(line: &str) -> Option<(u32, &str)> {
     let (word, text) = line.split_once(' ')?;
     Some((u32::from_str_radix(word, 16).ok()?, text))

@@ -30,7 +30,7 @@ pub record IsHarvest (programs : List Program) (n : ℕ) (over_clean : Type 0) (
 abbrev pub AreOwn : List HarvestState → Type 0
 AreOwn harvests = (p : ℕ) (h : HarvestState) → slice_get harvests p ≡ Some h → h.own ≡ p
 
--- their outputs
+-- the outputs of each harvest
 abbrev pub harvested : List HarvestState → List (Vec Output Global)
 harvested harvests = map (λ h. h.outputs) harvests
 

@@ -1,3 +1,5 @@
+//! Why a run of a cluster came to no end.
+
 use om_interval::Pid;
 use thiserror::Error;
 

@@ -49,7 +49,7 @@ pub struct Following<'a, K: Naming, F: Follower> {
     ghost made: { K.OverClean → AreLanesMade K.programs K.cell.n lanes.items },
 }
 
-// A lane without an output.
+// Makes a lane without an output.
 fn empty_lane(alloc: Global) -> FollowedOutputs
     ensures { result.outputs.items ≡ [] }
 {
@@ -59,7 +59,7 @@ fn empty_lane(alloc: Global) -> FollowedOutputs
     }
 }
 
-// So many of them.
+// Makes `n` lanes without an output.
 fn empty_lanes(alloc: Global, n: usize) -> Result<Vec<FollowedOutputs>, AllocError>
     ensures many { IfOk result (λ lanes. vec_len lanes ≡ n) }
     ensures empty { IfOk result (λ lanes. AreEmpty lanes.items) }
@@ -246,7 +246,7 @@ fn tell_all<F: Follower>(
     follower.pause()
 }
 
-// The outputs of each lane.
+// Returns the outputs of each lane.
 fn outputs_of(alloc: Global, lanes: Vec<FollowedOutputs>) -> Result<Vec<Vec<Output>>, AllocError>
     ensures { IfOk result (λ outputs. outputs.items ≡ map (λ lane. lane.outputs) lanes.items) }
 {
@@ -259,7 +259,7 @@ fn outputs_of(alloc: Global, lanes: Vec<FollowedOutputs>) -> Result<Vec<Vec<Outp
 }
 
 impl<'a, K: Naming, F: Follower> Following<'a, K, F> {
-    /// Makes that of a cluster that is to run. The follower comes back where memory runs out.
+    /// Makes the following of a cluster that is to run. The follower comes back where memory runs out.
     pub fn new<R: Wait>(
         rt: &R,
         alloc: Global,

@@ -56,7 +56,7 @@ impl<K: Naming> Harvest<K> {
         Ok(Harvest { pid, outputs, pass })
     }
 
-    // The outputs, which are still within the process's place of the board's front.
+    // Returns the outputs, which are still within the process's place of the board's front.
     fn met<R: Wait>(self, rt: &R, frontier: &Frontier<K>, board: &mut Board<K>) -> Vec<Output>
         requires { IsBoard K.cell.n board.old }
         ensures outputs { result ≡ self.outputs }

@@ -20,7 +20,7 @@ pub fn copy_of(alloc: Global, output: &Output) -> Result<Output, AllocError>
     })
 }
 
-// A copy of outputs.
+// Copies outputs.
 fn copies_of(alloc: Global, outputs: &[Output]) -> Result<Vec<Output>, AllocError>
     ensures held { IfOk result (λ copies. map held_of copies.items ≡ map held_of outputs.now) }
     ensures numbers { IfOk result (λ copies. map (λ o. o.seq) copies.items ≡ map (λ o. o.seq) outputs.now) }

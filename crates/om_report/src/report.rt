@@ -25,7 +25,7 @@ pub struct Report {
     pub front: Front,
 }
 
-// The released outputs of each process.
+// Returns the released outputs of each process.
 fn released_by(alloc: Global, manager: &Manager) -> Result<Vec<Vec<Output>>, AllocError>
     ensures long { IfOk result (λ released. length released.items ≡ process_count manager.now) }
     ensures released { IfOk result (λ released. AreReleasedBy manager.now released.items) }
@@ -39,7 +39,7 @@ fn released_by(alloc: Global, manager: &Manager) -> Result<Vec<Vec<Output>>, All
 }
 
 impl Report {
-    /// The released outputs and the front of a manager, with how the processes ended.
+    /// Makes a report of the released outputs and the front of a manager, with how the processes ended.
     pub fn of(alloc: Global, manager: &Manager, statuses: Vec<Status>) -> Result<Report, AllocError>
         ensures outputs { IfOk result (λ report. AreReleasedBy manager.now report.released.items) }
         ensures processes { IfOk result (λ report. length report.released.items ≡ process_count manager.now) }

@@ -65,7 +65,7 @@ break_at sets (Some address) = if sets then requests.SetBreak address else reque
 abbrev pub is_break : List ℕ → Bool
 is_break kind = bytes_eq kind (codes "0") || bytes_eq kind (codes "1")
 
--- and 2 to 4 are watchpoints
+-- the watchpoint of a kind: 2 to 4
 abbrev pub watched_of : List ℕ → Option Watched
 watched_of kind =
     if bytes_eq kind (codes "2") then Some Writes

@@ -131,7 +131,7 @@ fn point_in(word: &[u8]) -> Option<usize>
     word.iter().position(|byte| *byte == b'.')
 }
 
-// PROCESS or PROCESS.THREAD.
+// Reads PROCESS or PROCESS.THREAD.
 fn process_whom(word: &[u8]) -> Option<Whom>
     ensures { result ≡ process_whom word.now }
 {
@@ -144,7 +144,7 @@ fn process_whom(word: &[u8]) -> Option<Whom>
     }
 }
 
-// A thread of a process, or whoever.
+// Reads a thread of a process, or whoever.
 fn thread_of_group(process: &[u8], word: &[u8]) -> Option<Whom>
     ensures { result ≡ (if bytes_eq process.now (codes "-1") then Some Whom.Any else any_or (hex_number process.now) (thread_in word.now)) }
 {
@@ -154,7 +154,7 @@ fn thread_of_group(process: &[u8], word: &[u8]) -> Option<Whom>
     thread_in(word, hex_number(process))
 }
 
-// All threads of a process.
+// Names all threads of a process.
 fn whole(number: Option<u32>) -> Option<Whom>
     ensures { result ≡ any_or number whole }
 {
@@ -164,7 +164,7 @@ fn whole(number: Option<u32>) -> Option<Whom>
     }
 }
 
-// A thread of a process, or all.
+// Reads a thread of a process, or all.
 fn thread_in(word: &[u8], number: Option<u32>) -> Option<Whom>
     ensures { result ≡ any_or number (thread_in word.now) }
 {
@@ -197,7 +197,7 @@ fn group_resume(rest: &[&[u8]]) -> GroupRequest
     }
 }
 
-// The words behind the first action.
+// Returns the words behind the first action.
 fn behind_action<'a, 'b>(rest: &'a [&'b [u8]]) -> &'a [&'b [u8]]
     ensures { map (λ word. word.now) result.now ≡ behind_action (map (λ word. word.now) rest.now) }
 {
@@ -218,7 +218,7 @@ fn named_first(words: &[&[u8]]) -> Option<Whom>
     }
 }
 
-// The process that is left.
+// Reads the process that is left.
 fn leaving(rest: &[&[u8]]) -> Option<GroupRequest>
     ensures { result ≡ leaving (map (λ word. word.now) rest.now) }
 {
@@ -231,7 +231,7 @@ fn leaving(rest: &[&[u8]]) -> Option<GroupRequest>
     })
 }
 
-// A piece of the name of a file.
+// Reads a request for a piece of the name of a file.
 fn file_request(rest: &[&[u8]]) -> Option<GroupRequest>
     ensures { result ≡ file_request (map (λ word. word.now) rest.now) }
 {

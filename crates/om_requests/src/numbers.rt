@@ -5,7 +5,8 @@ ghost use Rattle.std.specs.Str.Parse.{digits_value};
 ghost use Rattle.om_requests.specs.Numbers.{hex_number};
 ghost use Rattle.om_text.specs.Numbers.{are_digits, below};
 
-/// A number below 2^32 in hexadecimal digits, in either case: with any number of leading zeros, and no sign.
+/// Reads a number below 2^32 in hexadecimal digits, in either case: with any number of leading zeros, and no
+/// sign.
 pub fn hex_number(word: &[u8]) -> Option<u32>
     ensures { result ≡ hex_number word.now }
 {

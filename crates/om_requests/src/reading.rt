@@ -28,7 +28,7 @@ pub(crate) fn request_by(alloc: Global, words: &[&[u8]]) -> Result<Request, Allo
     }
 }
 
-// By the whole first word, where that is no command of the user.
+// Reads a request by the whole first word, where that is no command of the user.
 fn by_word(first: &[u8], rest: &[&[u8]]) -> Request
     ensures { result ≡ by_word first.now (map (λ word. word.now) rest.now) }
 {
@@ -71,7 +71,7 @@ fn by_word(first: &[u8], rest: &[&[u8]]) -> Request
     by_letter(first, rest)
 }
 
-// By the letter that begins the first word.
+// Reads a request by the letter that begins the first word.
 fn by_letter(first: &[u8], rest: &[&[u8]]) -> Request
     ensures { result ≡ by_letter first.now (map (λ word. word.now) rest.now) }
 {
@@ -114,7 +114,7 @@ fn is_break(kind: &[u8]) -> bool
     kind == b"0".as_slice() || kind == b"1".as_slice()
 }
 
-// A breakpoint or a watchpoint that is set or taken away.
+// Reads a request to set a breakpoint or a watchpoint, or to take it away.
 fn break_request(sets: bool, kind: &[u8], rest: &[&[u8]]) -> Request
     ensures { result ≡ break_request sets kind.now (map (λ word. word.now) rest.now) }
 {
@@ -185,7 +185,7 @@ fn watch_at(sets: bool, watch: Watch) -> Request
     }
 }
 
-// Some bytes of memory.
+// Reads a request for some bytes of memory.
 fn memory_request(address: &[u8], rest: &[&[u8]]) -> Request
     ensures { result ≡ memory_request address.now (map (λ word. word.now) rest.now) }
 {
@@ -224,7 +224,7 @@ pub(crate) fn thread_of(word: &[u8]) -> Option<Thread>
     }
 }
 
-// A piece of a text.
+// Reads a request for a piece of a text.
 fn transfer(rest: &[&[u8]]) -> Request
     ensures { result ≡ transfer (map (λ word. word.now) rest.now) }
 {
@@ -258,7 +258,7 @@ fn transfer_of(object: &[u8], annex: &[u8], offset: &[u8], length: &[u8]) -> Req
     Request::Unknown
 }
 
-// A command of the user.
+// Reads a command of the user.
 fn monitor_request(alloc: Global, rest: &[&[u8]]) -> Result<Request, AllocError>
     ensures { IfOk result (λ request. request ≡ monitor_request (map (λ word. word.now) rest.now)) }
 {

@@ -1,3 +1,5 @@
+//! What a debugger asks for.
+
 /// A thread that is meant.
 #[derive(Clone, Copy, Debug, PartialEq, Eq)]
 pub enum Thread {

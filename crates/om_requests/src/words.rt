@@ -11,7 +11,7 @@ fn is_mark(byte: u8) -> bool
     byte == b',' || byte == b':' || byte == b';'
 }
 
-// The words of a packet, which commas, colons and semicolons part.
+// Returns the words of a packet, which commas, colons and semicolons part.
 pub(crate) fn words_of(alloc: Global, packet: &[u8]) -> Result<Vec<&[u8]>, AllocError>
     ensures { IfOk result (λ words. map (λ word. word.now) words.items ≡ words_of packet.now) }
 {

@@ -147,7 +147,7 @@ fn tables_of<S: Ledger>(
     tables_in(alloc, own, n, image, &about, &outputs, &senders)
 }
 
-// The rows of a table.
+// Reads the rows of a table.
 fn rows_in<S: Ledger>(
     alloc: Global,
     store: &mut S,
@@ -208,7 +208,7 @@ fn says(rows: &[(u64, Vec<u8>)], about: &[u8]) -> Result<bool, FindFault>
     Ok(true)
 }
 
-// The outputs that are the rows of a table.
+// Reads the outputs that are the rows of a table.
 fn outputs_of(alloc: Global, rows: &[(u64, Vec<u8>)]) -> Result<Vec<Made>, FindFault>
     ensures outputs { IfOk result (λ outputs. AllZip IsRowOfOutput (rows_of rows.now) outputs.items) }
     ensures never_fault { IsErrOf result FindFault.Fault → ⊥ }
@@ -223,7 +223,7 @@ fn outputs_of(alloc: Global, rows: &[(u64, Vec<u8>)]) -> Result<Vec<Made>, FindF
     Ok(outputs)
 }
 
-// The senders that are the rows of a table, of which each begins behind the one before.
+// Reads the senders that are the rows of a table, of which each begins behind the one before.
 fn senders_of(alloc: Global, rows: &[(u64, Vec<u8>)]) -> Result<Vec<u8>, FindFault>
     ensures senders { IfOk result (λ senders. AreSendersIn (rows_of rows.now) senders.items) }
     ensures never_fault { IsErrOf result FindFault.Fault → ⊥ }
@@ -238,7 +238,7 @@ fn senders_of(alloc: Global, rows: &[(u64, Vec<u8>)]) -> Result<Vec<u8>, FindFau
     Ok(senders)
 }
 
-// All that was found. What holds something says what it is of.
+// Returns all that was found. What holds something says what it is of.
 fn found_of(
     alloc: Global,
     tables: Tables,

@@ -1,3 +1,5 @@
+//! What was found in a store that a run may take up.
+
 ghost use Rattle.std.specs.Prelude.{◌<◌, ◌↔◌, IsTrue, length};
 ghost use Rattle.om_restart.specs.Beyond.{IsBeyondStart};
 
@@ -12,7 +14,7 @@ pub struct Found {
     pub outputs: Vec<Made>,
     /// By receipt, from the first on, the place of its sender, as far as they are known without a gap.
     pub senders: Vec<u8>,
-    /// Of how many receipts the senders stand in the table.
+    /// The number of receipts whose senders stand in the table.
     pub kept: usize,
     /// Whether it says what it is of.
     pub has_about: bool,

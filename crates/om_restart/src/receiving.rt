@@ -17,7 +17,7 @@ use om_process::{LAST_INTERVAL, PendingRow};
 use om_stable::{Stable, StoreError};
 use std::alloc::{AllocError, Global};
 
-// The first place at which two lists differ, among those that both have.
+// Returns the first place at which two lists differ, among those that both have.
 fn first_change(old: &[u32], new: &[u32]) -> Option<usize>
     ensures found { IfSome result (λ q. IsFirstChange old.now new.now q) }
     ensures none { IfNone result ((q : ℕ) → IsFirstChange old.now new.now q → ⊥) }
@@ -30,8 +30,8 @@ fn first_change(old: &[u32], new: &[u32]) -> Option<usize>
     None
 }
 
-// The place of the sender of the receipt that gave a row, by the row before it: the one of which a message more was got. A
-// checkpoint's row is not given by a receipt.
+// Returns the place of the sender of the receipt that gave a row, by the row before it: the one of which a message more was
+// got. A checkpoint's row is not given by a receipt.
 fn sender_of(before: &PendingRow, row: &PendingRow) -> Option<u8>
     ensures told { IfSome result (λ q. IsFrom before.now row.now q) }
     ensures all { (q : ℕ) → IsFrom before.now row.now q → q < 256 → result ≡ Some q }
@@ -45,7 +45,7 @@ fn sender_of(before: &PendingRow, row: &PendingRow) -> Option<u8>
     }
 }
 
-// The interval and the sender of each receipt that gave a row, ascending.
+// Returns the interval and the sender of each receipt that gave a row, ascending.
 pub(crate) fn received_in(alloc: Global, rows: &[PendingRow]) -> Result<Vec<(u32, u8)>, AllocError>
     ensures told { IfOk result (λ received. AreReceivedBy (length rows.now) rows.now received.items) }
     ensures ascending { IfOk result (λ received. IsNonDecreasingBy (λ e. e.0) received.items) }
@@ -55,7 +55,7 @@ pub(crate) fn received_in(alloc: Global, rows: &[PendingRow]) -> Result<Vec<(u32
     Ok(received)
 }
 
-// The same, in the order of the rows.
+// Returns the interval and the sender of each receipt that gave a row, in the order of the rows.
 fn in_order_of(alloc: Global, rows: &[PendingRow]) -> Result<Vec<(u32, u8)>, AllocError>
     ensures { IfOk result (λ received. AreReceivedBy (length rows.now) rows.now received.items) }
 {
@@ -101,7 +101,7 @@ pub(crate) fn has_strays<S: Stable>(
     Ok(!strays.is_empty())
 }
 
-// The newest interval of the rows.
+// Returns the newest interval of the rows.
 fn newest(rows: &[PendingRow]) -> u32
     ensures highest { All (λ row. row.x ≤ result) rows.now }
     ensures one { 0 < result → Any (λ row. row.x ≡ result) rows.now }
@@ -109,7 +109,7 @@ fn newest(rows: &[PendingRow]) -> u32
     rows.iter().map(|row| row.x).max().unwrap_or(0)
 }
 
-// The receipts behind an interval.
+// Reads the receipts behind an interval.
 fn receipts_after<S: Stable>(
     alloc: Global,
     store: &mut S,

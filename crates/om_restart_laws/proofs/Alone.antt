@@ -110,8 +110,8 @@ module _ (programs : List Program) (live : List Entry) (state : List ℕ) (conte
   kept : IsBelow state m.recovery
   kept = subst (IsBelow state) (sym s.recovery) (not_lost programs live (content_of contents) s.told.rows state s.told.recovery l.records s.rows s.greatest l.places l.last l.served l.within)
 
-  legal : Legal programs (cut_list (recovered m) live)
-  legal = subst (λ r. Legal programs (cut_list (slice_index r) live)) (sym s.recovery) (cut_legal programs live (content_of contents) s.told.rows s.told.recovery l.legal l.records s.rows s.greatest.recoverable)
+  legal : Legal programs (cut_list m.recovery live)
+  legal = subst (λ r. Legal programs (cut_list r live)) (sym s.recovery) (cut_legal programs live (content_of contents) s.told.rows s.told.recovery l.legal l.records s.rows s.greatest.recoverable)
 
   -- ---- what is released
   released : (p : ℕ) → p < length programs → released_by m p ≡ outputs p
@@ -129,26 +129,26 @@ module _ (programs : List Program) (live : List Entry) (state : List ℕ) (conte
 
   first_released : (p : ℕ) → p < length programs → ReleasedFirst over p
   first_released p lt =
-      let all = released_first programs p (cut_list (recovered m) live) (map output_entry (outputs p)) legal (λ i e at.
+      let all = released_first programs p (cut_list m.recovery live) (map output_entry (outputs p)) legal (λ i e at.
       let o = before_map output_entry (outputs p) i e at in
       let made = l.put_out p i o.0 lt o.1 in
       let more = below_all state m.recovery p kept in
       let low = made.0 in
-      subst (λ (d : QueueEntry). AtInterval (received p (cut_list (recovered m) live)) d.interval (Makes (program_at programs p) p (length programs) (length programs) i d)) o.2
-      (cut_fact (recovered m) live p o.0.interval (Makes (program_at programs p) p (length programs) (length programs) i (output_entry o.0)) (omega arith) made.1)) in
+      subst (λ (d : QueueEntry). AtInterval (received p (cut_list m.recovery live)) d.interval (Makes (program_at programs p) p (length programs) (length programs) i d)) o.2
+      (cut_fact m.recovery live p o.0.interval (Makes (program_at programs p) p (length programs) (length programs) i (output_entry o.0)) (omega arith) made.1)) in
       (all.0, all.1, λ i o at. all.2 i (output_entry o) (map_at output_entry (outputs p) i o (ap (λ xs. slice_get xs i) (sym (released p lt)) ∙ at)))
 
   -- ---- a row has its record
   as_checkpoint : (p : ℕ) (t : PendingRow) → p < length programs → IsRecorded p (length programs) (content_of contents p) t → t.ckpt ≡ true → t.x ≤ recovered m p → HasRecord over p (content_of contents p) Checkpoint t.x
   as_checkpoint p t lt r is le =
       let c = r.checkpoint is in
-      (c.1.0, c.1.1, c.0, c.1.2, c.2, c.3, cut_fact (recovered m) live p t.x (CheckpointOf (program_at programs p) p (length programs) (process_of c.0)) le (l.records.checkpoints p t.x c.0 lt c.1))
+      (c.1.0, c.1.1, c.0, c.1.2, c.2, c.3, cut_fact m.recovery live p t.x (CheckpointOf (program_at programs p) p (length programs) (process_of c.0)) le (l.records.checkpoints p t.x c.0 lt c.1))
 
   as_receipt : (p : ℕ) (t : PendingRow) → p < length programs → IsRecorded p (length programs) (content_of contents p) t → t.ckpt ≡ false → t.x ≤ recovered m p → HasRecord over p (content_of contents p) Log t.x
   as_receipt p t lt r is le =
       let c = r.receipt is in
       let begun = c.2 in
-      (c.1.0, c.1.1, c.0, c.1.2, cut_fact (recovered m) live p t.x (RecordOf (program_at programs p) p (length programs) c.0) le (l.records.receipts p t.x c.0 lt (omega arith) c.1))
+      (c.1.0, c.1.1, c.0, c.1.2, cut_fact m.recovery live p t.x (RecordOf (program_at programs p) p (length programs) c.0) le (l.records.receipts p t.x c.0 lt (omega arith) c.1))
 
   told_record : (p : ℕ) (t : PendingRow) → p < length programs → IsRecorded p (length programs) (content_of contents p) t → (row_for p t).interval ≤ recovered m p → HasRecord over p (content_of contents p) (row_for p t).kind (row_for p t).interval
   told_record p t lt r = by t.ckpt refl

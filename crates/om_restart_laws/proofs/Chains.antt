@@ -1,6 +1,5 @@
 -- What was released once stands in all that comes after.
 use Rattle.std.proofs.Common.{◌≡◌, ℕ, ◌<◌, List, [], ◌∷◌, ◌++◌, length, sym, ap, ◌∙◌, subst, arith}
-use Rattle.std.specs.Prelude.{slice_index}
 use Rattle.om_manager.specs.Outputs.{HeldOutput}
 use Rattle.om_process.specs.Claims.{AtInterval, Makes}
 use Rattle.om_process.specs.Process.{Program, Received}
@@ -24,7 +23,7 @@ said_next old new start p number o lt t size on said =
     let same = t.kept.same_places in
     let high = on.recovered.each p (omega arith) in
     let was = said.0 in
-    let cut = cut_fact (slice_index start.state) old.live p o.interval (MadeBy old.programs p number o) (omega arith) said.1 in
+    let cut = cut_fact start.state old.live p o.interval (MadeBy old.programs p number o) (omega arith) said.1 in
     let more = at_more (received p (left_of old start.state)) (received p on.more) o.interval (MadeBy old.programs p number o) cut in
     let here : received p (left_of old start.state) ++ received p on.more ≡ received p new.live = sym (received-append p (left_of old start.state) on.more) ∙ ap (received p) (sym on.live) in
     let long : AtInterval (received p new.live) o.interval (MadeBy old.programs p number o) = subst (λ h. AtInterval h o.interval (MadeBy old.programs p number o)) here more in (

@@ -102,6 +102,6 @@ within programs live rows state legal facts r p q other = elim (less p n) [
 
 pub cut_legal : (programs : List Program) (live : List Entry) (held : ℕ → Content) (rows : Rows) (state : List ℕ)
     → Legal programs live → AreTrue programs live held → HasRowsOf (length programs) held rows → IsRecoverable (length programs) rows state
-    → Legal programs (cut_list (slice_index state) live)
+    → Legal programs (cut_list state live)
 cut_legal programs live held rows state legal disk has r =
-    cut programs (slice_index state) live legal (closed_legal programs (slice_index state) live legal (within programs live rows state legal (λ row at. rows_are_true programs live held rows row disk has at) r))
+    cut programs state live legal (closed_legal programs state live legal (within programs live rows state legal (λ row at. rows_are_true programs live held rows row disk has at) r))

@@ -1,6 +1,6 @@
 -- Stores that are cut to a state are true of the run that is cut to it.
 use Rattle.std.proofs.Common.{◌≡◌, ℕ, ◌≤◌, List, length, Some, None, Option, Bool, true, false, cond, refl, sym, ◌∙◌, subst, arith}
-use Rattle.std.specs.Prelude.{nat_le}
+use Rattle.std.specs.Prelude.{nat_le, slice_index}
 use Rattle.std.specs.FinMap.{get, retain_keys}
 use Rattle.std.proofs.lemmas.Bool.Decides.{nat_tests}
 use Rattle.om_process.specs.Claims.{AtInterval, CheckpointOf, RecordOf}
@@ -24,16 +24,16 @@ of_cut held r x bytes at = go (nat_le x r) refl (sym (get-retained held (λ y. n
         none : ◌≡◌ {A = Option (List ℕ)} None (Some bytes) → ⊥
         none e = cc
 
-pub cut_fact : (s : ℕ → ℕ) (live : List Entry) (p x : ℕ) (P : List Received → Type 0) → x ≤ s p → AtInterval (received p live) x P → AtInterval (received p (cut_list s live)) x P
-cut_fact s live p x P le at = subst (λ h. AtInterval h x P) (sym (cut_first s live p)) (at_cut (received p live) x (s p) P le at)
+pub cut_fact : (s : List ℕ) (live : List Entry) (p x : ℕ) (P : List Received → Type 0) → x ≤ slice_index s p → AtInterval (received p live) x P → AtInterval (received p (cut_list s live)) x P
+cut_fact s live p x P le at = subst (λ h. AtInterval h x P) (sym (cut_first s live p)) (at_cut (received p live) x (slice_index s p) P le at)
 
-pub cut_true : (programs : List Program) (live : List Entry) (held : ℕ → Content) (s : ℕ → ℕ) → AreTrue programs live held
-    → AreTrue programs (cut_list s live) (λ p. kept_by_cut (held p) (s p))
+pub cut_true : (programs : List Program) (live : List Entry) (held : ℕ → Content) (s : List ℕ) → AreTrue programs live held
+    → AreTrue programs (cut_list s live) (λ p. kept_by_cut (held p) (slice_index s p))
 cut_true programs live held s disk = record {
   checkpoints = λ p x c lt at.
-      let was = of_cut (held p).checkpoints (s p) x at.0 at.1 in
+      let was = of_cut (held p).checkpoints (slice_index s p) x at.0 at.1 in
       cut_fact s live p x (CheckpointOf (program_at programs p) p (length programs) (process_of c)) was.0 (disk.checkpoints p x c lt (at.0, was.1, at.2, at.3));
   receipts = λ p x r lt begun at.
-      let was = of_cut (held p).receipts (s p) x at.0 at.1 in
+      let was = of_cut (held p).receipts (slice_index s p) x at.0 at.1 in
       cut_fact s live p x (RecordOf (program_at programs p) p (length programs) r) was.0 (disk.receipts p x r lt begun (at.0, was.1, at.2, at.3));
 }

@@ -1,5 +1,6 @@
 -- What is replayed from true records stands where the run leads.
 use Rattle.std.proofs.Common.{◌≡◌, ℕ, suc, ◌+◌, ◌<◌, ◌≤◌, List, [], ◌∷◌, ◌++◌, length, take, sym, ap, ◌∙◌, subst, arith}
+use Rattle.std.specs.Prelude.{slice_index}
 use Rattle.std.proofs.lemmas.List.{append-nil}
 use Rattle.std.proofs.Math.Seq.{append_snoc}
 use Rattle.om_format.specs.Receipts.{ReceiptRecord}
@@ -33,8 +34,8 @@ receipts_along program own n h held y (r ∷ rs) facts a =
     ∙ receipts_along program own n h held (y + 1) rs facts a.1
     ∙ ap (λ k. take k h) (omega arith)
 
-pub replay_along : (programs : List Program) (live : List Entry) (held : ℕ → Content) (s : ℕ → ℕ) (p : ℕ) (core : CoreState)
-    → AreTrue programs live held → p < length programs → core.own ≡ p → cluster_size core.now ≡ length programs → IsReplay (held p) (s p) core
+pub replay_along : (programs : List Program) (live : List Entry) (held : ℕ → Content) (s : List ℕ) (p : ℕ) (core : CoreState)
+    → AreTrue programs live held → p < length programs → core.own ≡ p → cluster_size core.now ≡ length programs → IsReplay (held p) (slice_index s p) core
     → CheckpointOf (program_at programs p) p (length programs) core.now (received p (cut_list s live))
 replay_along programs live held s p core disk lt own size replay =
     let n : ℕ = length programs in
@@ -44,6 +45,6 @@ replay_along programs live held s p core disk lt own size replay =
     let begun : CheckpointOf program p n (process_of c) (take c.head.interval h) = (disk.checkpoints p c.head.interval c lt replay.begins.stored).1 in
     let done : Replayed p n (process_of c) replay.receipts core.now = subst (λ m. Replayed p m (process_of c) replay.receipts core.now) size (subst (λ o. Replayed o (cluster_size core.now) (process_of c) replay.receipts core.now) own replay.replayed) in
     let ends = replayed_along program p n (process_of c) core.now (take c.head.interval h) replay.receipts begun done in
-    let whole : take c.head.interval h ++ receipts_of replay.receipts ≡ take (s p) h =
+    let whole : take c.head.interval h ++ receipts_of replay.receipts ≡ take (slice_index s p) h =
     receipts_along program p n h (held p).receipts c.head.interval replay.receipts (λ x r begun at. disk.receipts p x r lt begun at) replay.stored ∙ ap (λ k. take k h) (sym replay.last) in
     subst (CheckpointOf program p n core.now) (whole ∙ sym (cut_first s live p)) ends

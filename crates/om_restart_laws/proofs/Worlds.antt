@@ -25,9 +25,9 @@ taken_up w rows state disk has greatest = record {
       let made = disk.released p i o lt at in
       let le = made.0 in
       let more : recovered w.manager p ≤ slice_index state p = kept.each p (omega arith) in
-      cut_fact (slice_index state) w.live p o.interval (Makes (program_at w.programs p) p (length w.programs) (length w.programs) i (output_entry o)) (omega arith) made.1;
-  stands = λ p core lt own many replay. replay_along w.programs w.live (held_in w) (slice_index state) p core disk.held lt own many replay;
-  disk = cut_true w.programs w.live (held_in w) (slice_index state) disk.held;
+      cut_fact state w.live p o.interval (Makes (program_at w.programs p) p (length w.programs) (length w.programs) i (output_entry o)) (omega arith) made.1;
+  stands = λ p core lt own many replay. replay_along w.programs w.live (held_in w) state p core disk.held lt own many replay;
+  disk = cut_true w.programs w.live (held_in w) state disk.held;
 }
   where
     kept : IsBelow w.manager.recovery state

@@ -10,7 +10,7 @@ use Rattle.om_stable.specs.Content.{Content, nothing}
 use Rattle.om_world.specs.Disk.{AreTrue, CanServe, DependsWithin}
 use Rattle.om_world.specs.Holds.{Holds}
 use Rattle.om_world.specs.Live.{Legal, cut_list, program_at, received}
-use Rattle.om_world.specs.World.{WorldState, output_entry, recovered}
+use Rattle.om_world.specs.World.{WorldState, output_entry}
 use Rattle.om_world.specs.declared.entry.Entry.{Entry}
 use Rattle.om_world.specs.declared.process_state.ProcessState.{ProcessState}
 
@@ -36,7 +36,7 @@ pub record AreLeft (programs : List Program) (live : List Entry) (state : List �
 abbrev pub world_over : List Program → List Entry → List Content → ManagerState → WorldState
 world_over programs live contents m = record {
   programs = programs;
-  live = cut_list (recovered m) live;
+  live = cut_list m.recovery live;
   frames = [];
   cores = replicate (length programs) None;
   places = replicate (length programs) (ProcessState.Down true);

@@ -14,7 +14,7 @@ use Rattle.om_world.specs.declared.entry.Entry.{Entry}
 
 -- what a state leaves of the run of a world
 abbrev pub left_of : WorldState → List ℕ → List Entry
-left_of w state = cut_list (slice_index state) w.live
+left_of w state = cut_list state w.live
 
 -- a world that ended is taken up at a state: what that leaves of its run is a run without failures; nothing that was recovered is
 -- lost; each output that was released is made under its number; each process that is replayed to its place stands where that run

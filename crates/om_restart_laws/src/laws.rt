@@ -35,37 +35,37 @@ ghost use Rattle.om_take_up.specs.TakenUp.{RiseFrom};
 ghost use Rattle.om_world.specs.StoreRows.{HasRowsOf};
 ghost use Rattle.om_restart_laws.specs.Worlds.{IsTakenUpAt};
 
-/// Where the records of the stores are true of a run, so are the rows that they stand for: each row's vectors are the dependencies
-/// and the counts of its process's first receipts.
+/// Proves that where the records of the stores are true of a run, so are the rows that they stand for: each row's vectors are the
+/// dependencies and the counts of its process's first receipts.
 pub fn rows_are_true()
     ensures { (programs : List Program) (live : List Entry) (held : ℕ → Content) (rows : Rows) (row : Row)
         → AreTrue programs live held → HasRowsOf (length programs) held rows → HasRow rows row
         → AtInterval (received row.pid live) row.interval (RowOf row.pid (length programs) row.vec row.got) }
 {}
 
-/// What a recoverable state of these rows leaves of the run is a run without failures, of which the stores, cut to that state, are
-/// true again: so the next start finds what this one found.
+/// Proves that what a recoverable state of these rows leaves of the run is a run without failures, of which the stores, cut to that
+/// state, are true again: so the next start finds what this one found.
 pub fn taken_up()
     ensures legal { (programs : List Program) (live : List Entry) (held : ℕ → Content) (rows : Rows) (state : List ℕ)
         → Legal programs live → AreTrue programs live held → HasRowsOf (length programs) held rows
-        → IsRecoverable (length programs) rows state → Legal programs (cut_list (slice_index state) live) }
+        → IsRecoverable (length programs) rows state → Legal programs (cut_list state live) }
     ensures kept { (programs : List Program) (live : List Entry) (held : ℕ → Content) (state : List ℕ)
         → AreTrue programs live held
-        → AreTrue programs (cut_list (slice_index state) live) (λ p. kept_by_cut (held p) (slice_index state p)) }
+        → AreTrue programs (cut_list state live) (λ p. kept_by_cut (held p) (slice_index state p)) }
     ensures stands { (programs : List Program) (live : List Entry) (held : ℕ → Content) (state : List ℕ) (p : ℕ) (core : CoreState)
         → AreTrue programs live held → p < length programs → core.own ≡ p → cluster_size core.now ≡ length programs
         → IsReplay (held p) (slice_index state p) core
-        → CheckpointOf (program_at programs p) p (length programs) core.now (received p (cut_list (slice_index state) live)) }
+        → CheckpointOf (program_at programs p) p (length programs) core.now (received p (cut_list state live)) }
     ensures said { (programs : List Program) (live : List Entry) (state : List ℕ) (p number : ℕ) (output : QueueEntry)
         → AtInterval (received p live) output.interval
         (Makes (program_at programs p) p (length programs) (length programs) number output)
         → output.interval ≤ slice_index state p
-        → AtInterval (received p (cut_list (slice_index state) live)) output.interval
+        → AtInterval (received p (cut_list state live)) output.interval
         (Makes (program_at programs p) p (length programs) (length programs) number output) }
 {}
 
-/// Nothing is lost that the stores could serve: each state whose intervals they can serve, and that depends on nothing outside it, is
-/// below the greatest recoverable one of these rows.
+/// Proves that nothing is lost that the stores could serve: each state whose intervals they can serve, and that depends on nothing
+/// outside it, is below the greatest recoverable one of these rows.
 pub fn not_lost()
     ensures { (programs : List Program) (live : List Entry) (held : ℕ → Content) (rows : Rows) (old state : List ℕ)
         → AreTrue programs live held → HasRowsOf (length programs) held rows → IsGreatest (length programs) rows state
@@ -74,15 +74,16 @@ pub fn not_lost()
         → IsBelow old state }
 {}
 
-/// Whatever was lost, refused or failed in a world that left this on its disk: a start over its stores goes on at a point of the same
-/// run without failures, which has all that was recovered and all that was released.
+/// Proves that, whatever was lost, refused or failed in a world that left this on its disk, a start over its stores goes on at a point
+/// of the same run without failures, which has all that was recovered and all that was released.
 pub fn a_start_goes_on()
     ensures { (w : WorldState) (rows : Rows) (state : List ℕ) → IsOnDisk w → HasRowsOf (length w.programs) (held_in w) rows
         → IsGreatest (length w.programs) rows state → IsTakenUpAt w state }
 {}
 
-/// The event of a restart is such a start, over the run of which the stores are: the world behind it stands at the recovery state of its
-/// manager, and goes on from there. Where each process knows the last finished round, that run is all that was received.
+/// Proves that the event of a restart is a start over the stores of its world, and over the run that they are of: the world behind it
+/// stands at the recovery state of its manager, and goes on from there. Where each process knows the last finished round, that run is
+/// all that was received.
 pub fn a_restart_is_a_start()
     ensures at { (old new : WorldState) (r : HasRestarted old new) → IsOnDisk (along old r.run)
         → IsTakenUpAt (along old r.run) new.manager.recovery }
@@ -90,8 +91,8 @@ pub fn a_restart_is_a_start()
     ensures settled { (old new : WorldState) (r : HasRestarted old new) → AreCurrent old → r.run ≡ old.live }
 {}
 
-/// However often it ends and is taken up again, all is one run: what the last world received is a run without failures, along which each
-/// output that was ever released is made under its number, within what is recovered.
+/// Proves that, however often a world ends and is taken up again, all is one run: what the last world received is a run without
+/// failures, along which each output that was ever released is made under its number, within what is recovered.
 pub fn a_chain_is_one_run()
     ensures one { (first last : WorldState) (starts : List Start) → IsChain first starts last → IsOnDisk last
         → Legal last.programs last.live }
@@ -101,9 +102,9 @@ pub fn a_chain_is_one_run()
         → slice_get (released_by w.manager p) number ≡ Some output → IsSaid w p number output }
 {}
 
-/// Stores alone suffice for a start, whatever left them: over stores whose records are true of a run without failures and can serve a
-/// state, with what was put out, a start comes to a point of that run, which has all of the state and releases just what was put out. A
-/// world that ends leaves such stores, and the event of a restart is such a start.
+/// Proves that stores alone suffice for a start, whatever left them: over stores whose records are true of a run without failures and
+/// can serve a state, with what was put out, a start comes to a point of that run, which has all of the state and releases just what was
+/// put out. A world that ends leaves such stores, and the event of a restart is such a start.
 pub fn stores_alone()
     ensures stands { (programs : List Program) (live : List Entry) (state : List ℕ) (contents : List Content)
         (outputs : ℕ → List HeldOutput) (m : ManagerState) → AreLeft programs live state contents outputs
@@ -114,7 +115,7 @@ pub fn stores_alone()
         → StartsOver (length old.programs) (held_in old) (released_by old.manager) new.manager }
 {}
 
-/// So does a start in which each process reaches the manager by itself, in any order: it comes to a point of the run that was left.
+/// Proves that a start in which each process reaches the manager by itself, in any order, comes to a point of the run that was left.
 pub fn a_start_in_any_order()
     ensures { (programs : List Program) (live : List Entry) (state : List ℕ) (contents : List Content)
         (rows : ℕ → List PendingRow) (outputs : ℕ → List Made) (acts : List Act) (first last : ManagerState)
@@ -124,7 +125,7 @@ pub fn a_start_in_any_order()
         → ComeInTurn first acts last → StandsOver programs live state contents (λ p. map held_as (outputs p)) last }
 {}
 
-/// However often a world is played, ends and is taken up again from what it left: behind all of that the last world is a point of a run
+/// Proves that, however often a world is played, ends and is taken up again from what it left, the last world is then a point of a run
 /// without failures, and whatever was released at any time still is, under its number.
 pub fn runs_are_one()
     ensures holds { (first last : WorldState) (stops : List Stop) → Holds first → AreRuns first stops last → Holds last }

@@ -21,7 +21,7 @@ pub record IsTextIn (form : BytesForm) (cluster : Cluster) (live : List Entry) (
   pub run : IsRunBy (programs_of cluster) live outputs statuses
   pub written : text ≡ run_text_in form cluster outputs statuses
 
--- the same, with their bytes in hexadecimal
+-- the text of such a run, with the bytes of outputs in hexadecimal
 abbrev pub IsTextBy : Cluster → List Entry → List ℕ → Type 0
 IsTextBy = IsTextIn Hex
 

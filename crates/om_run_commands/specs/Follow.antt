@@ -56,7 +56,7 @@ pub record IsBytesAnswer (p : ℕ) (over_clean : Type 0) (statuses : List Status
   pub ended : statuses ≡ report.statuses.items
   pub is_text : text ≡ bytes_of (slice_index_or (outputs_of report) p [])
 
--- the same of the process of a name
+-- the answer of `IsBytesAnswer` for the process of a name
 abbrev pub IsFollowedRawAnswer : List ℕ → Type 0 → List Status → ClusterFile → List ℕ → Type 0
 IsFollowedRawAnswer name over_clean statuses script text =
     (p : ℕ) × (place_of name script.cluster.processes ≡ Some p) × IsBytesAnswer p over_clean statuses script text
@@ -71,7 +71,7 @@ abbrev pub IsPartOfBytes : ℕ → Type 0 → ClusterFile → Option (List ℕ) 
 IsPartOfBytes p over_clean script before after = (told : List Told) × AreInOrder told
     × (over_clean → AreToldMade (programs_of script.cluster) (length (programs_of script.cluster)) told) × Appends before after (bytes_told p told)
 
--- the same of the process of a name
+-- what was written, as `IsPartOfBytes` has it, for the process of a name
 abbrev pub IsRawPartOf : List ℕ → Type 0 → ClusterFile → Option (List ℕ) → Option (List ℕ) → Type 0
 IsRawPartOf name over_clean script before after =
     (p : ℕ) × (place_of name script.cluster.processes ≡ Some p) × IsPartOfBytes p over_clean script before after

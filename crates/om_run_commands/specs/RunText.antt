@@ -21,7 +21,7 @@ abbrev pub run_text_in : BytesForm → Cluster → List (List HeldOutput) → Li
 run_text_in form cluster released statuses =
     flat_map (λ p. outputs_text form (name_at cluster p) (slice_index_or released p [])) (range_with_len 0 (length released)) ++ ends_text cluster statuses
 
--- the same, with their bytes in hexadecimal
+-- the text of a run as `run_text_in` has it, with the bytes of outputs in hexadecimal
 abbrev pub run_text : Cluster → List (List HeldOutput) → List Status → List ℕ
 run_text = run_text_in Hex
 

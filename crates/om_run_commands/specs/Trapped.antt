@@ -35,12 +35,12 @@ abbrev pub cause_line : List ℕ → Cause → ℕ → List ℕ
 cause_line name cause pc =
     name ++ codes ": trapped " ++ decimal (cause_number cause) ++ codes ", " ++ cause_words cause ++ codes ", at " ++ word_text pc ++ 10 ∷ []
 
--- the same of a process with a status that trapped, and nothing of another
+-- the line of a process with a status that trapped at this pc, and nothing of another
 abbrev pub status_line : List ℕ → Status → ℕ → List ℕ
 status_line name (Trapped cause) pc = cause_line name cause pc
 status_line name _ pc = []
 
--- the same of a process that does this
+-- the line of a process that does this, where it trapped at this pc, and nothing else
 abbrev pub trap_line : List ℕ → Doing → ℕ → List ℕ
 trap_line name (Up status) pc = status_line name status pc
 trap_line name _ pc = []

@@ -23,8 +23,8 @@ use std::sync::Wait;
 use std::thread::Threads;
 use std::time::Clock;
 
-// As `run` of [`crate::run`], and then plays, in one thread, the run without failures in which each process receives what
-// it received in its threads: what is written is the text of that run, to the byte.
+// Runs as `run` of [`crate::run`] does, and then plays, in one thread, the run without failures in which each process receives
+// what it received in its threads: what is written is the text of that run, to the byte.
 //
 // Refused with the errors of `run`, in their order; then with `Unlike` where the threads' outputs or statuses are not those
 // of that run, or there is none, and with `NoMemory` where memory ran out for it. Refused, nothing is written, unless it was
@@ -50,8 +50,8 @@ pub(crate) fn run_checked<R: Threads + Wait + Clock + Sync, O: Opener<R> + Sync,
     Ok(report.statuses)
 }
 
-// As [`run_checked`], and writes that run as a script of `sim` to the file of the context, before the text: the lines of programs
-// and processes, and then the events.
+// Runs as [`run_checked`] does, and writes that run as a script of `sim` to the file of the context, before the text: the lines
+// of programs and processes, and then the events.
 pub(crate) fn run_with_witness<
     R: Threads + Wait + Clock + Sync,
     O: Opener<R> + Sync,

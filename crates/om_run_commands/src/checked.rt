@@ -46,7 +46,7 @@ fn status_of(world: &World<MemStable>, pid: Pid) -> Status
     }
 }
 
-// The text of the run without failures of a world in its end.
+// Returns the text of the run without failures of a world in its end.
 fn text_of(
     alloc: Global,
     form: BytesForm,
@@ -61,7 +61,7 @@ fn text_of(
     run_text(alloc, form, programs, &report.released, &report.statuses)
 }
 
-// The text of the run without failures of a world in its end, where it is that of the report.
+// Returns the text of the run without failures of a world in its end, where it is that of the report.
 fn compared(
     alloc: Global,
     form: BytesForm,
@@ -86,8 +86,8 @@ fn compared(
     Ok(text)
 }
 
-/// The text of what threads report of these programs, with the bytes of outputs in a form, where it is, to the byte, that of the run without failures that the
-/// witnesses name.
+/// Returns the text of what threads report of these programs, with the bytes of outputs in a form, where it is, to the byte, that of the
+/// run without failures that the witnesses name.
 ///
 /// Refused with `Unlike` where they name none, or its text is another; with `NoMemory` where memory ran out.
 pub fn checked_text(
@@ -109,7 +109,7 @@ pub fn checked_text(
     compared(alloc, form, programs, report, &world)
 }
 
-/// As [`checked_text`], and beside the text the events of that run, in order: each process runs, is given its frames, and
+/// Returns the text as [`checked_text`] does, and beside it the events of that run, in order: each process runs, is given its frames, and
 /// stores what it received once at the end.
 pub fn checked_events(
     alloc: Global,

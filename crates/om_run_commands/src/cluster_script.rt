@@ -65,7 +65,7 @@ impl ClusterScript {
         }
     }
 
-    /// The programs and processes.
+    /// Returns the programs and processes.
     pub fn programs(&self) -> &Programs
         ensures { result.now ≡ self.now.cluster }
     {
@@ -79,28 +79,28 @@ impl ClusterScript {
         &self.kills
     }
 
-    /// After how many receipts a process stores its volatile log.
+    /// Returns after how many receipts a process stores its volatile log.
     pub fn flush(&self) -> u32
         ensures { result ≡ self.now.flush }
     {
         self.flush
     }
 
-    /// After how many receipts a process stores a checkpoint.
+    /// Returns after how many receipts a process stores a checkpoint.
     pub fn checkpoint(&self) -> u32
         ensures { result ≡ self.now.checkpoint }
     {
         self.checkpoint
     }
 
-    /// The most instructions of a turn.
+    /// Returns the most instructions of a turn.
     pub fn fuel(&self) -> u64
         ensures { result ≡ self.now.fuel }
     {
         self.fuel
     }
 
-    /// The lines of programs and processes, one space between two words; nothing where they were not kept.
+    /// Returns the lines of programs and processes, one space between two words; nothing where they were not kept.
     pub fn lines(&self) -> &[u8] {
         match &self.lines {
             Some(lines) => lines.as_slice(),
@@ -139,7 +139,7 @@ impl ClusterScript {
         Ok(())
     }
 
-    // `flush K`.
+    // Reads a line `flush K`.
     fn set_flush(&mut self, words: &[&[u8]]) -> Result<(), BuildError<LineError>>
         ensures { Gives (λ _. self.new) result (flush_line self.old (map (λ word. word.now) words.now)) }
     {
@@ -148,7 +148,7 @@ impl ClusterScript {
         Ok(())
     }
 
-    // `checkpoint K`.
+    // Reads a line `checkpoint K`.
     fn set_checkpoint(&mut self, words: &[&[u8]]) -> Result<(), BuildError<LineError>>
         ensures { Gives (λ _. self.new) result (checkpoint_line self.old (map (λ word. word.now) words.now)) }
     {
@@ -157,7 +157,7 @@ impl ClusterScript {
         Ok(())
     }
 
-    // `fuel K`.
+    // Reads a line `fuel K`.
     fn set_fuel(&mut self, words: &[&[u8]]) -> Result<(), BuildError<LineError>>
         ensures { Gives (λ _. self.new) result (fuel_line self.old (map (λ word. word.now) words.now)) }
     {
@@ -166,7 +166,7 @@ impl ClusterScript {
         Ok(())
     }
 
-    // A line that says how the cluster is run, by its first word and those behind it.
+    // Reads a line that says how the cluster is run, by its first word and those behind it.
     fn add_setting(&mut self, first: &[u8], words: &[&[u8]]) -> Result<(), BuildError<LineError>>
         ensures { Gives (λ _. self.new) result (setting_line self.old first.now (map (λ word. word.now) words.now)) }
     {
@@ -228,7 +228,7 @@ impl Builder for ClusterScript {
     }
 }
 
-// Room for lines, where they are to be kept.
+// Makes room for lines, where they are to be kept.
 fn lines_kept(alloc: Global, keeps_lines: bool) -> Option<Vec<u8>> {
     if keeps_lines {
         Some(Vec::new(alloc))
@@ -261,7 +261,7 @@ fn keep(lines: &mut Vec<u8>, words: &[&[u8]]) -> Result<(), AllocError> {
     Ok(())
 }
 
-// The number of receipts that the one word stands for.
+// Reads the number of receipts that the one word stands for.
 fn receipts_in(words: &[&[u8]]) -> Result<u32, LineError>
     ensures { result ≡ count_in number_of (map (λ word. word.now) words.now) }
 {
@@ -274,7 +274,7 @@ fn receipts_in(words: &[&[u8]]) -> Result<u32, LineError>
     }
 }
 
-// The number of instructions that the one word stands for.
+// Reads the number of instructions that the one word stands for.
 fn instructions_in(words: &[&[u8]]) -> Result<u64, LineError>
     ensures { result ≡ count_in long_number_of (map (λ word. word.now) words.now) }
 {

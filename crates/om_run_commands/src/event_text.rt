@@ -37,7 +37,7 @@ pub(crate) fn push_event(text: &mut String, event: Event) -> Result<(), AllocErr
     text.push('\n')
 }
 
-/// The lines of a script of `sim` that tell what is to happen, one for each event.
+/// Returns the lines of a script of `sim` that tell what is to happen, one for each event.
 pub fn events_text(alloc: Global, events: &[Event]) -> Result<String, AllocError>
     ensures { IfOk result (λ text. string_bytes text ≡ events_text events.now) }
 {

@@ -40,7 +40,7 @@ struct Lines<'a, W: Write + Drop> {
     lacks_memory: bool,
 }
 
-// The name of a process, and none where there is no such process.
+// Returns the name of a process, and an empty one where there is no such process.
 pub(crate) fn name_in(programs: &Programs, p: usize) -> &str
     ensures { result.now ≡ name_at programs.now p }
 {
@@ -51,7 +51,7 @@ pub(crate) fn name_in(programs: &Programs, p: usize) -> &str
     }
 }
 
-// The line of an output of a process.
+// Makes the line of an output of a process.
 fn line_of(
     alloc: Global,
     form: BytesForm,
@@ -90,9 +90,9 @@ impl<'a, W: Write + Drop> Follower for Lines<'a, W> {
     }
 }
 
-// As `run` of [`crate::run`], but each output is written as soon as it is released: the lines of a process in order and each
-// once, those of different processes in the order in which they were released. At the end comes how each process ended. Where
-// the run is refused, what was released by then is written; less where memory ran out or the writer refused.
+// Runs as `run` of [`crate::run`] does, but each output is written as soon as it is released: the lines of a process in order
+// and each once, those of different processes in the order in which they were released. At the end comes how each process
+// ended. Where the run is refused, what was released by then is written; less where memory ran out or the writer refused.
 pub(crate) fn run_followed<R: Threads + Wait + Clock + Sync, O: Opener<R> + Sync, W: Write + Drop>(
     rt: &R,
     alloc: Global,
@@ -138,7 +138,7 @@ pub(crate) fn run_followed<R: Threads + Wait + Clock + Sync, O: Opener<R> + Sync
     }
 }
 
-// As the caller is told why a run that was followed came to no end.
+// Returns why a run that was followed came to no end, as the caller is told.
 pub(crate) fn error_of(fault: FollowFault, lacks_memory: bool) -> CommandError
     ensures error { (script : ClusterFile) → 1 ≤ length script.cluster.processes → IsErrorOfScript script result }
     ensures unwanted { fault ≡ FollowFault.Unwanted → (result ≡ CommandError.NoMemory) ⊎ (result ≡ CommandError.CannotWrite) }

@@ -43,8 +43,8 @@ impl<W: Write + Drop> Follower for Bytes<W> {
     }
 }
 
-// As `run_followed`, but of the outputs of the process of a name alone, and of these the bytes alone. Refused where there is no such
-// process.
+// Runs as `run_followed` does, but writes of the outputs those of the process of a name alone, and of these the bytes alone. Refused
+// where there is no such process.
 pub(crate) fn run_followed_raw<
     R: Threads + Wait + Clock + Sync,
     O: Opener<R> + Sync,
@@ -73,7 +73,7 @@ pub(crate) fn run_followed_raw<
     }
 }
 
-// The same by the number of the process.
+// Runs as `run_followed_raw` does, by the number of the process.
 fn run_followed_bytes<R: Threads + Wait + Clock + Sync, O: Opener<R> + Sync, W: Write + Drop>(
     rt: &R,
     alloc: Global,

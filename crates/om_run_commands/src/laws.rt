@@ -7,13 +7,13 @@ ghost use Rattle.om_world.specs.declared.entry.Entry.{Entry};
 ghost use Rattle.om_run_commands.specs.Check.{IsTextIn};
 ghost use Rattle.om_run_commands.specs.declared.cluster_script.TheConstants.{DEFAULT_CHECKPOINT, DEFAULT_FLUSH, DEFAULT_FUEL, MAX_KILLS};
 
-/// What is received in a run without failures determines its text.
+/// Proves that what is received in a run without failures determines its text.
 pub fn one_text()
     ensures { (form : BytesForm) (cluster : Cluster) (live : List Entry) (text other : List ℕ) → IsTextIn form cluster live text
         → IsTextIn form cluster live other → text ≡ other }
 {}
 
-/// A cluster file has at most so many kills, and these numbers hold where it names none.
+/// Proves that a cluster file has at most so many kills, and these numbers hold where it names none.
 pub fn limits()
     ensures kills { MAX_KILLS ≡ 64 }
     ensures flush { DEFAULT_FLUSH ≡ 4 }

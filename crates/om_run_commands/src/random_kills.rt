@@ -19,7 +19,8 @@ pub struct RandomKills {
     pub seed: u64,
 }
 
-// Below which interval a kill comes, by a number that is drawn: a short run has some of its kills, and a long one not all at its start.
+// Returns below which interval a kill comes, by a number that is drawn: a short run has some of its kills, and a long one not all at
+// its start.
 fn bound_of(drawn: u64) -> u64
     ensures least { 1 ≤ result }
     ensures most { result ≤ LAST_DRAWN }

@@ -25,7 +25,7 @@ impl Frames {
         }
     }
 
-    // One more is made. If there was one of the same message and incarnation, this one stands for both.
+    // Numbers one more frame. If there was one of the same message and incarnation, this one stands for both.
     fn make(&mut self, letter: Letter) -> Result<(), AllocError> {
         let Letter { from, to, inc, ssn } = letter;
         self.numbers.insert((from, to, inc, ssn), self.made)?;
@@ -33,13 +33,13 @@ impl Frames {
         Ok(())
     }
 
-    // The number of the last of the message.
+    // Returns the number of the last frame of the message.
     fn number(&self, letter: Letter) -> Option<usize> {
         let Letter { from, to, inc, ssn } = letter;
         self.numbers.get(&(from, to, inc, ssn)).copied()
     }
 
-    // The event that an act is, if it is one.
+    // Returns the event that an act is, if it is one.
     fn event_of(&self, act: Act) -> Option<Event> {
         match act {
             Act::Run { process, steps } => Some(Event::Run {
@@ -56,7 +56,7 @@ impl Frames {
     }
 }
 
-// The same, of an act of a process alone.
+// Returns the event that an act of a process alone is, if it is one.
 fn event_at(act: Act) -> Option<Event> {
     match act {
         Act::Resend { process } => Some(Event::Resend {
@@ -138,7 +138,7 @@ fn push_finish(text: &mut String, record: &Record, round: u32) -> Result<(), All
     }
 }
 
-// The events of a record, a line for each, and comments between them.
+// Returns the events of a record, a line for each, and comments between them.
 pub(crate) fn record_text(
     alloc: Global,
     programs: &Programs,

@@ -22,9 +22,9 @@ use std::sync::Wait;
 use std::thread::Threads;
 use std::time::Clock;
 
-// As `run` of [`crate::run`], and writes what the threads did as a script of `sim` to the file of the context, before the text: the
-// lines of programs and processes, and then the events in one order, with comments. What they did until a run was refused is
-// written too, if it can be.
+// Runs as `run` of [`crate::run`] does, and writes what the threads did as a script of `sim` to the file of the context, before the
+// text: the lines of programs and processes, and then the events in one order, with comments. What they did until a run was refused
+// is written too, if it can be.
 pub(crate) fn run_recorded<
     R: Threads + Wait + Clock + Sync,
     O: Opener<R> + Sync,

@@ -61,7 +61,7 @@ pub(crate) fn run<R: Threads + Wait + Clock + Sync, O: Opener<R> + Sync, W: Writ
     write_report(alloc, form, script, report, writer)
 }
 
-// The same, but written are the bytes alone that the process of a name put out.
+// Runs as `run` does, but writes the bytes alone that the process of a name put out.
 pub(crate) fn run_raw<R: Threads + Wait + Clock + Sync, O: Opener<R> + Sync, W: Write>(
     rt: &R,
     alloc: Global,
@@ -124,7 +124,7 @@ fn report_of<R: Threads + Wait + Clock + Sync, O: Opener<R> + Sync>(
     }
 }
 
-// The cluster of a script, and how it is run.
+// Returns the cluster of a script, and how it is run.
 pub(crate) fn config_of(
     alloc: Global,
     turns: u64,

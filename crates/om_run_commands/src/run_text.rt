@@ -59,7 +59,7 @@ pub(crate) fn push_ends(
     Ok(())
 }
 
-// The text of a run of these processes: by process what it put out and is released, and how it ended.
+// Returns the text of a run of these processes: by process what it put out and is released, and how it ended.
 pub(crate) fn run_text(
     alloc: Global,
     form: BytesForm,
@@ -78,7 +78,8 @@ pub(crate) fn run_text(
     Ok(text)
 }
 
-/// The text of what a run of these processes ends with: by process what it put out and is released, and then how each ended.
+/// Returns the text of what a run of these processes ends with: by process what it put out and is released, and then how
+/// each ended.
 pub fn report_text(
     alloc: Global,
     form: BytesForm,
@@ -118,7 +119,7 @@ fn add_named(
     Ok(())
 }
 
-// The bytes that the process of a name put out and are released.
+// Returns the bytes that the process of a name put out and are released.
 pub(crate) fn raw_text(
     alloc: Global,
     name: &str,

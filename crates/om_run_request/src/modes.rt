@@ -22,7 +22,7 @@ pub fn mode_of<'a>(checking: Checking<'a>) -> RunMode<'a>
     }
 }
 
-/// The form in which bytes are written that is asked for.
+/// Returns the asked form in which bytes are written.
 pub fn form_of(form: OutputForm) -> BytesForm
     ensures { result ≡ form_of form }
 {

@@ -91,8 +91,8 @@ impl<'a, 'w, R: Wait> RunContext for Surroundings<'a, 'w, R> {
         }
     }
 
-    // Once the run ended well, each store is to be put into its one file; where it was refused, the files that nobody wrote to are
-    // removed.
+    // Notes, where the run ended well, that each store is to be put into its one file; where it was refused, removes the files that
+    // nobody wrote to.
     fn end(&mut self, script: &ClusterScript, outcome: Result<&[Status], CommandError>) {
         match outcome {
             Ok(_) => {
@@ -109,7 +109,7 @@ impl<'a, 'w, R: Wait> RunContext for Surroundings<'a, 'w, R> {
 }
 
 impl<'a, 'w, R: Wait> Surroundings<'a, 'w, R> {
-    // Of a run for which nothing is made yet.
+    // Makes the surroundings of a run for which nothing is made yet.
     pub(crate) fn new(
         rt: &'a HostRuntime,
         threads: &'a R,
@@ -133,7 +133,7 @@ impl<'a, 'w, R: Wait> Surroundings<'a, 'w, R> {
         }
     }
 
-    // Nothing that the run has anyway is overwritten by the file that it is to write.
+    // Refuses where the file that the run is to write would overwrite something that the run has anyway.
     fn refuse_clash(&mut self, n: usize) -> Result<(), CommandError>
         ensures { IfErr result IsErrorOfContext }
     {
@@ -241,7 +241,7 @@ impl<'a, 'w, R: Wait> Surroundings<'a, 'w, R> {
         }
     }
 
-    // What is the matter with the store of a process.
+    // Adds what is the matter with the store of a process.
     fn add_store<D: Display + Drop>(&mut self, process: usize, what: D) {
         let prefix = self.job.running.prefix.unwrap_or("");
         if let Ok(file) = store_of(self.rt.alloc(), prefix, process) {
@@ -249,7 +249,8 @@ impl<'a, 'w, R: Wait> Surroundings<'a, 'w, R> {
         }
     }
 
-    // Which file could not be used: by what the system answered as it was opened; or, of those that the run found, by what stands in it.
+    // Adds which file could not be used: by what the system answered as it was opened; or, of those that the run found, by what stands
+    // in it.
     fn add_fault(&mut self, script: &ClusterScript) {
         let Some(prefix) = self.job.running.prefix else {
             return;
@@ -266,7 +267,7 @@ impl<'a, 'w, R: Wait> Surroundings<'a, 'w, R> {
         }
     }
 
-    // Which processes ended, and with which code.
+    // Adds which processes ended, and with which code.
     fn add_ended(&mut self, script: &ClusterScript) {
         let Some(watch) = self.watch else {
             return;
@@ -279,7 +280,7 @@ impl<'a, 'w, R: Wait> Surroundings<'a, 'w, R> {
         }
     }
 
-    // Which processes trapped, and of what, and of which sends were refused.
+    // Adds which processes trapped, and of what, and of which sends were refused.
     fn add_trapped(&mut self, script: &ClusterScript) {
         let Some(watch) = self.watch else {
             return;
@@ -295,7 +296,7 @@ impl<'a, 'w, R: Wait> Surroundings<'a, 'w, R> {
         }
     }
 
-    // Which kills did not come. Those that are drawn need not.
+    // Adds which kills did not come. Those that are drawn need not.
     fn add_kills_left(&mut self, script: &ClusterScript) {
         let Some(watch) = self.watch else {
             return;
@@ -324,7 +325,7 @@ impl<'a, 'w, R: Wait> Surroundings<'a, 'w, R> {
     }
 }
 
-// The name of the file that is made for it, if any.
+// Returns the name of the file that is made beside the text, if any.
 fn file_made_by<'a>(checking: Checking<'a>) -> Option<&'a str> {
     match checking {
         Checking::Off
@@ -355,7 +356,7 @@ fn clash_of(
     Ok(clash_with_databases(rt, path))
 }
 
-// The first process whose files failed, and what the system answered.
+// Returns the first process whose files failed, and what the system answered.
 fn first_answer(notes: Option<&Notes>) -> Option<(usize, io::Error)> {
     notes?.first()
 }
@@ -371,8 +372,8 @@ fn refusal_of(error: PlaceError) -> CommandError
     }
 }
 
-// The file of this name, which is made, or emptied. Its descriptor is none of the standard streams', which may be closed: what is
-// meant for one of these must not land in the file.
+// Opens the file of this name, which is made, or emptied. Its descriptor is none of the standard streams', which may be closed: what
+// is meant for one of these must not land in the file.
 fn made(rt: &HostRuntime, path: &str) -> io::Result<File> {
     fs::create(rt, path).and_then(|file| file.try_clone())
 }

@@ -46,13 +46,13 @@ impl Stage {
         }
     }
 
-    // The cluster starts.
+    // Notes that the cluster starts.
     pub(crate) fn begin(&self) {
         self.has_begun.store(true, SeqCst);
         self.to_begin.unpark();
     }
 
-    // The run is over, or was refused before the cluster started.
+    // Notes that the run is over, or was refused before the cluster started.
     fn end(&self) {
         self.is_over.store(true, SeqCst);
         self.to_begin.unpark();
@@ -131,7 +131,7 @@ fn run_as<'a, 'w, R: Threads + Wait + Clock + Sync, O: Opener<R> + Sync, I: Read
     )
 }
 
-// How a run ended, where a process that trapped, or a kill that did not come, may be a failure.
+// Returns how a run ended, where a process that trapped, or a kill that did not come, may be a failure.
 fn judged(
     ended: Result<Vec<Status>, Failure>,
     is_strict: bool,

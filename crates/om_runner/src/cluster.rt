@@ -8,11 +8,11 @@ ghost use Rattle.om_report.specs.Harvests.{harvested};
 ghost use Rattle.om_report.specs.declared.fault.RunFault.TheVariants.{Memory};
 ghost use Rattle.om_node.specs.Nodes.{AreAlwaysClean};
 ghost use Rattle.om_worker.specs.Ends.{IsGiven};
-ghost use Rattle.om_worker_parts.specs.Wiring.{IsWired};
 ghost use Rattle.om_report.specs.Reports.{IsWholeReport};
 ghost use Rattle.om_runner.specs.Reports.{AreWholeOver};
 ghost use Rattle.om_runner.specs.steps.Ends.{AreParts};
 ghost use Rattle.om_runner.specs.steps.Settling.{ArePasses, AreSettled};
+ghost use Rattle.om_runner.specs.steps.Starting.{CanStart, IsNamedFor};
 
 use crate::main_task::{MainTask, OnlyJoin};
 use crate::results::{Parts, gathered};
@@ -45,12 +45,8 @@ pub(crate) fn run_workers<
     passes: Vec<Pass<K>>,
     beside: B,
 ) -> (Result<Parts<K, O::Store>, RunFault>, B)
-    requires few { K.cell.n ≤ MAX_PROCESSES }
-    requires images { length cluster.now.plan.now.images.items ≡ K.cell.n }
-    requires programs { K.programs ≡ map program_of cluster.now.plan.now.images.items }
-    requires clean { K.OverClean → AreAlwaysClean O.Store.is_clean }
-    requires wired { IsWired K.cell.n cluster.now.inboxes.now ends.items }
-    requires passes { vec_len passes ≡ K.cell.n }
+    requires named { IsNamedFor O.Store.is_clean K.OverClean K.programs K.cell.n cluster.now.plan.now.images.items }
+    requires ready { CanStart K.cell.n cluster.now.inboxes.now ends.items (vec_len passes) }
     requires some { 1 ≤ K.cell.n }
     requires same { B.Becomes beside beside }
     ensures parts { IfOk result.0 (AreParts O.Store.is_clean cluster.now.plan.now.images.items cluster.now.inboxes.now) }
@@ -101,9 +97,7 @@ fn close<K: Naming, R: Wait, G: Gate, O: Opener<R>>(
     cluster: &Cluster<'_, K, R, G, O>,
     parts: Parts<K, O::Store>,
 ) -> Result<(Report, Vec<O::Store>, Vec<Witness>, Vec<Vec<TakePass>>), RunFault>
-    requires images { length cluster.now.plan.now.images.items ≡ K.cell.n }
-    requires programs { K.programs ≡ map program_of cluster.now.plan.now.images.items }
-    requires clean { K.OverClean → AreAlwaysClean O.Store.is_clean }
+    requires named { IsNamedFor O.Store.is_clean K.OverClean K.programs K.cell.n cluster.now.plan.now.images.items }
     requires parts { AreParts O.Store.is_clean cluster.now.plan.now.images.items cluster.now.inboxes.now parts }
     ensures settled { IfOk result (λ r. AreSettled (length parts.puts.items) parts.puts.items parts.takes.items r.3.items) }
     ensures outputs { IfOk result (λ r. r.0.released.items ≡ harvested parts.harvests.items) }

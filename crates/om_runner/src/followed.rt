@@ -9,6 +9,7 @@ ghost use Rattle.om_report.specs.declared.follower.FollowFault.TheVariants.{Unwa
 ghost use Rattle.om_node.specs.Nodes.{AreAlwaysClean};
 ghost use Rattle.om_report.specs.Reports.{IsReport};
 ghost use Rattle.om_runner.specs.steps.Ends.{AreParts};
+ghost use Rattle.om_runner.specs.steps.Starting.{IsNamedFor};
 
 use crate::cluster::{run_workers, settled};
 use crate::main_task::MainTask;
@@ -40,15 +41,13 @@ impl<'h, K: Naming, R: Wait, F: Follower> MainTask<K, R> for Following<'h, K, F>
     }
 }
 
-// All workers have ended: the follower is told of the rest, which they brought back. With the report of what it was told.
+// Tells the follower of the rest, which the workers brought back: all have ended. Returns the report of what it was told.
 fn close<K: Naming, R: Wait, G, O: Opener<R>, F: Follower>(
     cluster: &Cluster<'_, K, R, G, O>,
     parts: Result<Parts<K, O::Store>, RunFault>,
     following: Following<'_, K, F>,
 ) -> (Result<Report, FollowFault>, F)
-    requires images { length cluster.now.plan.now.images.items ≡ K.cell.n }
-    requires programs { K.programs ≡ map program_of cluster.now.plan.now.images.items }
-    requires clean { K.OverClean → AreAlwaysClean O.Store.is_clean }
+    requires named { IsNamedFor O.Store.is_clean K.OverClean K.programs K.cell.n cluster.now.plan.now.images.items }
     requires parts { IfOk parts (AreParts O.Store.is_clean cluster.now.plan.now.images.items cluster.now.inboxes.now) }
     ensures report { IfOk result.0 (IsReport K.OverClean K.programs) }
     ensures told { (start : F) → IsFollowed F.Tells start following.entry.lanes.items following.entry.fault following.entry.follower

@@ -1,3 +1,5 @@
+//! Stores in memory, for a run.
+
 use om_interval::Pid;
 use om_stable::MemStable;
 use om_worker_parts::{OpenFault, Opener};

@@ -8,7 +8,7 @@ pub(crate) trait MainTask<K: Naming, R>: Drop {
     // What it may have become.
     ghost Becomes: { Self → Self → Type 0 };
 
-    // Until the others have ended.
+    // Runs until the others have ended.
     fn run_beside<G, O>(self, cluster: &Cluster<'_, K, R, G, O>) -> Self
         ensures { Becomes self result };
 }

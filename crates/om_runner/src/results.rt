@@ -46,7 +46,7 @@ fn is_out(fault: RunFault) -> bool
     }
 }
 
-// The fault that is told, of those that workers ended with.
+// Returns the fault that is told, of those that workers ended with.
 fn fault_of<K: Naming, S: Stable>(results: &[Result<Finished<K, S>, RunFault>]) -> Option<RunFault>
     ensures none { IfNone result (AreBelow IsWell (length results.now) results.now) }
     ensures least { IfSome result (IsLeastFault results.now) }
@@ -86,7 +86,7 @@ fn all_of<K: Naming, S: Stable>(
     Ok(all)
 }
 
-// Each kind of what was brought back, by process.
+// Parts what was brought back into each kind, by process.
 fn parted<K: Naming, S: Stable>(
     alloc: Global,
     all: Vec<Finished<K, S>>,

@@ -1,7 +1,6 @@
 //! The threads of a cluster are started, and joined.
 
-ghost use Rattle.std.specs.Prelude.{◌≡◌, ◌<◌, ◌≤◌, ℕ, All, IfErr, IfOk, IfSome, Some, length, map, slice_get, slice_index_or, vec_capacity, vec_len};
-ghost use Rattle.om_interval.specs.declared.pid.TheConstants.{MAX_PROCESSES};
+ghost use Rattle.std.specs.Prelude.{◌≡◌, ◌<◌, ◌≤◌, ℕ, All, IfErr, IfOk, IfSome, Some, slice_get, slice_index_or, vec_capacity, vec_len};
 ghost use Rattle.om_process.specs.Images.{program_of};
 ghost use Rattle.om_process.specs.declared.image.Image.{Image};
 ghost use Rattle.om_report.specs.Faults.{IsFaultOf};
@@ -9,11 +8,11 @@ ghost use Rattle.om_report.specs.declared.fault.RunFault.TheVariants.{Memory};
 ghost use Rattle.om_runner.specs.steps.Ends.{AreEndsOf, AreOwnEnds, IsPromised};
 ghost use Rattle.om_worker.specs.Ends.{IsEndOf, IsOwnEnd};
 ghost use Rattle.om_node.specs.Nodes.{AreAlwaysClean};
-ghost use Rattle.om_worker_parts.specs.Wiring.{IsWired};
+ghost use Rattle.om_runner.specs.steps.Starting.{CanStart, IsNamedFor};
 
 use crate::main_task::MainTask;
 use om_board::{Inbox, Naming, Pass};
-use om_interval::{MAX_PROCESSES, Pid};
+use om_interval::Pid;
 use om_node::{FlightChannel, SentStore, flight_channel, write_all};
 use om_process::Image;
 use om_report::RunFault;
@@ -45,7 +44,7 @@ impl<'a, K: Naming, S: Stable> Promise<Result<Finished<K, S>, RunFault>> for End
 
 type Handle<'s, K, S> = PromisedHandle<Result<Finished<K, S>, RunFault>, EndOf<'s, S>>;
 
-// One process on a thread of the scope.
+// Runs one process on a thread of the scope.
 fn start<
     's,
     E,
@@ -119,7 +118,7 @@ fn started_channel<
     }
 }
 
-// One process, and the thread that writes its store where that is slow. The book of its flights has a name of its own.
+// Runs one process, and the thread that writes its store where that is slow. The book of its flights has a name of its own.
 fn start_apart<
     's,
     E,
@@ -159,7 +158,7 @@ fn start_apart<
     )
 }
 
-// All processes, each on a thread of its own; None where a thread could not be made, and then all are stopped.
+// Runs all processes, each on a thread of its own; None where a thread could not be made, and then all are stopped.
 fn start_all<
     's,
     E,
@@ -174,12 +173,8 @@ fn start_all<
     mut passes: Vec<Pass<K>>,
     mut handles: Vec<Handle<'s, K, O::Store>>,
 ) -> Option<Vec<Handle<'s, K, O::Store>>>
-    requires few { K.cell.n ≤ MAX_PROCESSES }
-    requires images { length cluster.now.plan.now.images.items ≡ K.cell.n }
-    requires programs { K.programs ≡ map program_of cluster.now.plan.now.images.items }
-    requires clean { K.OverClean → AreAlwaysClean O.Store.is_clean }
-    requires wired { IsWired K.cell.n cluster.now.inboxes.now ends.items }
-    requires passes { vec_len passes ≡ K.cell.n }
+    requires named { IsNamedFor O.Store.is_clean K.OverClean K.programs K.cell.n cluster.now.plan.now.images.items }
+    requires ready { CanStart K.cell.n cluster.now.inboxes.now ends.items (vec_len passes) }
     requires none { vec_len handles ≡ 0 }
     requires room { K.cell.n ≤ vec_capacity handles }
     ensures long { IfSome result (λ v. vec_len v ≡ K.cell.n) }
@@ -215,7 +210,8 @@ fn start_all<
     Some(handles)
 }
 
-// All processes, each on a thread of its own, and all joined; and what was beside them.
+// Runs all processes, each on a thread of its own, and what is beside them, and joins all. Returns what they brought back, and what was
+// beside them.
 pub(crate) fn run_scoped<
     K: Naming + Send + Sync,
     R: Threads + Wait + Clock + Sync,
@@ -231,12 +227,8 @@ pub(crate) fn run_scoped<
     Result<Vec<Result<Finished<K, O::Store>, RunFault>>, RunFault>,
     B,
 )
-    requires few { K.cell.n ≤ MAX_PROCESSES }
-    requires images { length cluster.now.plan.now.images.items ≡ K.cell.n }
-    requires programs { K.programs ≡ map program_of cluster.now.plan.now.images.items }
-    requires clean { K.OverClean → AreAlwaysClean O.Store.is_clean }
-    requires wired { IsWired K.cell.n cluster.now.inboxes.now ends.items }
-    requires passes { vec_len passes ≡ K.cell.n }
+    requires named { IsNamedFor O.Store.is_clean K.OverClean K.programs K.cell.n cluster.now.plan.now.images.items }
+    requires ready { CanStart K.cell.n cluster.now.inboxes.now ends.items (vec_len passes) }
     requires same { B.Becomes beside beside }
     ensures long { IfOk result.0 (λ v. vec_len v ≡ K.cell.n) }
     ensures each { IfOk result.0 (λ v. AreEndsOf O.Store.is_clean cluster.now.plan.now.images.items
@@ -252,12 +244,8 @@ pub(crate) fn run_scoped<
             Result<Vec<Result<Finished<K, O::Store>, RunFault>>, RunFault>,
             B,
         )
-            requires few { K.cell.n ≤ MAX_PROCESSES }
-            requires images { length cluster.now.plan.now.images.items ≡ K.cell.n }
-            requires programs { K.programs ≡ map program_of cluster.now.plan.now.images.items }
-            requires clean { K.OverClean → AreAlwaysClean O.Store.is_clean }
-            requires wired { IsWired K.cell.n cluster.now.inboxes.now ends.items }
-            requires passes { vec_len passes ≡ K.cell.n }
+            requires named { IsNamedFor O.Store.is_clean K.OverClean K.programs K.cell.n cluster.now.plan.now.images.items }
+            requires ready { CanStart K.cell.n cluster.now.inboxes.now ends.items (vec_len passes) }
             requires same { B.Becomes beside beside }
             ensures long { IfOk result.0 (λ v. vec_len v ≡ K.cell.n) }
             ensures each { IfOk result.0 (λ v. AreEndsOf O.Store.is_clean cluster.entry.now.plan.now.images.items

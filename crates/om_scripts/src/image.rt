@@ -15,7 +15,7 @@ use om_process::Image;
 use om_text::{BuildError, LineError, hex_word};
 use std::alloc::{AllocError, Global};
 
-// The words of the machine that the words write.
+// Reads the words of the machine that the words write.
 pub(crate) fn words_in(alloc: Global, words: &[&[u8]]) -> Result<Vec<u32>, BuildError<LineError>>
     ensures words { Gives (λ ws. ws.items) result (all_read hex_word LineError.BadWord (map (λ word. word.now) words.now)) }
 {
@@ -29,7 +29,7 @@ pub(crate) fn words_in(alloc: Global, words: &[&[u8]]) -> Result<Vec<u32>, Build
     Ok(all)
 }
 
-// The image of a program in words.
+// Makes the image of a program in words.
 pub(crate) fn image_of(
     alloc: Global,
     ext: Ext,
@@ -45,7 +45,7 @@ pub(crate) fn image_of(
     Ok(Image { bytes, size, ext })
 }
 
-// The bytes of the words, the lowest of each first.
+// Returns the bytes of the words, the lowest of each first.
 fn bytes_of(alloc: Global, words: &[u32]) -> Result<Vec<u8>, AllocError>
     requires { 4 * length words.now < 2 ^ 64 }
     ensures bytes { IfOk result (λ bytes. bytes.items ≡ flat_map (to_le_bytes w32) words.now) }

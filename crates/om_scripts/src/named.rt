@@ -31,21 +31,21 @@ impl<V: Drop> Named<V> {
         }
     }
 
-    /// Returns how many there are.
+    /// Returns how many names there are.
     pub fn len(&self) -> usize
         ensures { result ≡ length self.now }
     {
         self.entries.len()
     }
 
-    /// The place of a name.
+    /// Returns the place of a name, if it is there.
     pub fn place(&self, name: &str) -> Option<usize>
         ensures { result ≡ place_of name.now self.now }
     {
         self.entries.get_index_of(name)
     }
 
-    /// The name and the value at a place.
+    /// Returns the name and the value at a place.
     pub fn get(&self, place: usize) -> Option<(&str, &V)>
         ensures { MatchOption result (slice_get self.now place ≡ None) (λ e. slice_get self.now place ≡ Some (e.0.now, e.1.now)) }
     {

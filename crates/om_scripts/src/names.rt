@@ -7,7 +7,7 @@ ghost use Rattle.om_scripts.specs.Named.{is_name, is_name_byte};
 /// The most bytes of a name.
 pub const MAX_NAME: usize = 32;
 
-/// The word as a name: 1 to [`MAX_NAME`] letters, digits and `_`.
+/// Returns the word as a name: 1 to [`MAX_NAME`] letters, digits and `_`.
 #[tactic(auto, using(crate::proofs::NameLemmas::utf8_name))]
 pub fn name_of(word: &[u8]) -> Option<&str>
     ensures { MatchOption result (is_name word.now ≡ false) (λ name. (name.now ≡ word.now) × (is_name word.now ≡ true)) }

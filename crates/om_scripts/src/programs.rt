@@ -49,7 +49,7 @@ impl Model for Programs {
 }
 
 impl Programs {
-    /// No program and no process, and open for both.
+    /// Makes a list of no program and no process, open for both.
     pub fn new(alloc: Global) -> Programs
         ensures { result ≡ no_programs }
     {
@@ -60,7 +60,7 @@ impl Programs {
         }
     }
 
-    /// The number of processes.
+    /// Returns the number of processes.
     pub fn n(&self) -> usize
         ensures number { result ≡ length self.now.processes }
         ensures few { result ≤ MAX_PROCESSES }
@@ -68,7 +68,7 @@ impl Programs {
         self.processes.len()
     }
 
-    /// The name of a process.
+    /// Returns the name of a process, by its number.
     pub fn name(&self, place: usize) -> Option<&str>
         ensures { option_map (λ name. name.now) result ≡ option_map (λ e. e.0) (slice_get self.now.processes place) }
     {
@@ -76,7 +76,7 @@ impl Programs {
         Some(name)
     }
 
-    /// The name of the program of a process.
+    /// Returns the name of the program of a process, by the number of the process.
     pub fn program_of(&self, process: usize) -> Option<&str>
         ensures { option_map (λ name. name.now) result ≡ option_map (λ e. program_name self.now e.1) (slice_get self.now.processes process) }
     {
@@ -85,7 +85,7 @@ impl Programs {
         Some(name)
     }
 
-    /// The number of the process of a name.
+    /// Returns the number of the process of a name.
     pub fn place(&self, name: &str) -> Option<usize>
         ensures place { result ≡ place_of name.now self.now.processes }
         ensures in_range { IfSome result (λ place. place < MAX_PROCESSES) }
@@ -93,7 +93,7 @@ impl Programs {
         self.processes.place(name)
     }
 
-    /// The image of a program, by its place among the programs.
+    /// Returns the image of a program, by its place among the programs.
     pub fn image(&self, place: usize) -> Option<&Image>
         ensures { option_map (λ image. program_of image.now) result ≡ option_map (λ e. e.1) (slice_get self.now.programs place) }
     {
@@ -101,7 +101,7 @@ impl Programs {
         Some(image)
     }
 
-    /// The images of the processes.
+    /// Copies the images of the processes.
     pub fn images(&self, alloc: Global) -> Result<Vec<Image>, AllocError>
         ensures programs { IfOk result (λ images. map program_of images.items ≡ programs_of self.now) }
         ensures sizes { IfOk result (λ images. All IsProgram (map program_of images.items)) }
@@ -113,7 +113,7 @@ impl Programs {
         Ok(images)
     }
 
-    // The image of a process.
+    // Copies the image of a process.
     fn image_of(&self, alloc: Global, process: usize) -> Result<Image, AllocError>
         requires { process < length self.now.processes }
         ensures program { IfOk result (λ image. slice_get (programs_of self.now) process ≡ Some (program_of image)) }
@@ -125,7 +125,7 @@ impl Programs {
         }
     }
 
-    // The image at a place.
+    // Copies the image at a place.
     fn copy_at(&self, alloc: Global, place: usize) -> Result<Image, AllocError>
         requires { place < length self.now.programs }
         ensures program { IfOk result (λ image. program_of image ≡ program_at self.now place) }
@@ -137,7 +137,7 @@ impl Programs {
         }
     }
 
-    /// Other lines begin: what is given from now on is out of place.
+    /// Closes the list as other lines begin: a program or a process that is given from now on is out of place.
     pub fn close(&mut self)
         ensures { self.new ≡ record self.old { is_closed = true } }
     {
@@ -182,7 +182,7 @@ impl Programs {
         Ok(())
     }
 
-    // A program by a new name.
+    // Adds a program by a new name.
     fn push_program(&mut self, alloc: Global, name: &str, image: Image) -> Result<(), AllocError>
         requires new { place_of name.now self.old.programs ≡ None }
         requires right { IsProgram (program_of image) }
@@ -194,7 +194,7 @@ impl Programs {
         self.programs.add(alloc, name, image)
     }
 
-    // The place of a program.
+    // Returns the place of a program.
     fn program_place(&self, name: &str) -> Option<usize>
         ensures { result ≡ place_of name.now self.now.programs }
     {

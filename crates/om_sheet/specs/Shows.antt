@@ -48,7 +48,7 @@ abbrev pub flush_shown : Answer → Shown
 flush_shown (answers.Noted count) = if count == 0 then shows.Nothing else shows.Flush
 flush_shown _ = shows.Nothing
 
--- of a flush of so many receipts
+-- what is shown of a flush of so many receipts
 abbrev pub first_shown : ℕ → Answer → Shown
 first_shown many (answers.Noted count) = if (count == 0) || (many == 0) then shows.Nothing else shows.FlushFirst many
 first_shown many _ = shows.Nothing

@@ -88,7 +88,7 @@ fn run_shown(answer: Answer, ended: bool) -> Shown
     Shown::Run { sent, made, ends }
 }
 
-// The status, where it is the end of a program.
+// Returns the status, where it is the end of a program.
 fn end_of(status: Status) -> Option<Status>
     ensures { result ≡ end_of status }
 {
@@ -126,7 +126,7 @@ fn flush_shown(answer: Answer) -> Shown
     }
 }
 
-// Of a flush of so many receipts.
+// Returns what is shown of a flush of so many receipts.
 fn first_shown(answer: Answer, many: usize) -> Shown
     ensures { result ≡ first_shown many answer }
 {

@@ -23,7 +23,7 @@ pub struct PlayedEvent {
     pub first: u64,
     /// How many it handed in.
     pub fresh: u64,
-    /// Of the first of them.
+    /// The label of the first of these outputs.
     pub label: Label,
     /// The recovery state behind the event.
     pub recovery: DepVec,
@@ -46,7 +46,7 @@ pub struct EndState {
     pub status: Status,
 }
 
-/// The process of an event.
+/// Returns the process of an event.
 pub fn process_of(event: Event) -> Option<usize>
     ensures { result ≡ process_of event }
 {

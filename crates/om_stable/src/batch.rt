@@ -1,3 +1,5 @@
+//! What is put into a store, and removed from it, at once.
+
 use crate::ledger::LedgerRows;
 
 /// A checkpoint to be put.

@@ -1,3 +1,5 @@
+//! Why a store refuses a call.
+
 ghost use Rattle.std.specs.Prelude.{◌≡◌};
 ghost use Rattle.om_stable.specs.declared.error.StoreError.TheVariants.{Memory};
 

@@ -1,3 +1,5 @@
+//! A store that fails on purpose.
+
 ghost use Rattle.std.specs.Prelude.{◌≡◌};
 
 use crate::batch::WriteBatch;

@@ -7,7 +7,7 @@ ghost use Rattle.std.specs.FinMap.{get};
 ghost use Rattle.std.specs.List.{slice_get};
 ghost use Rattle.om_stable.specs.Content.{Records, between, with_all};
 
-/// The records between two intervals are each of them, no other, in ascending order.
+/// Proves that the records between two intervals are each of them, no other, in ascending order.
 pub fn between_is_all_between()
     ensures within { (held : Records) (after to i : ℕ) (row : ℕ × List ℕ) → slice_get (between held after to) i ≡ Some row
         → (after < row.0) × (row.0 ≤ to) }
@@ -19,7 +19,7 @@ pub fn between_is_all_between()
         → (i : ℕ) × (slice_get (between held after to) i ≡ Some (x, bytes)) }
 {}
 
-/// Records with more added hold these where they were added, and elsewhere what they held before.
+/// Proves that records with more added hold these where they were added, and elsewhere what they held before.
 pub fn with_all_holds_all()
     ensures below { (held : Records) (first : ℕ) (added : List (List ℕ)) (x : ℕ) → x < first
         → get (with_all held first added) x ≡ get held x }
@@ -32,7 +32,7 @@ pub fn with_all_holds_all()
         → (get held x ≡ Some bytes) ⊎ ((i : ℕ) × (x ≡ first + i) × (slice_get added i ≡ Some bytes)) }
 {}
 
-/// The numbers of intervals and of records of a table, and the last count of failures, are these.
+/// Proves that the numbers of intervals and of records of a table, and the last count of failures, are these.
 pub fn limits()
     ensures intervals { INTERVALS ≡ 4294967296 }
     ensures last_count { LAST_COUNT ≡ 18446744073709551615 }

@@ -1,3 +1,5 @@
+//! Stores that keep what a later run needs beside their records.
+
 ghost use Rattle.std.specs.Prelude.{◌≡◌, ◌≢◌, ℕ, ◌+◌, ◌≤◌, Bool, true, false, Option, length, IsTrue, IfOk, OnOk, OnErr, IsErrOf};
 ghost use Rattle.std.specs.FinMap as map;
 ghost use Rattle.om_stable.specs.declared.error.StoreError.{StoreError};

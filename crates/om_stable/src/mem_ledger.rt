@@ -1,3 +1,5 @@
+//! A store in memory that a later run of the same program can take up.
+
 ghost use Rattle.std.specs.Prelude.{◌≡◌, ◌≢◌, ◌⊎◌, ◌+◌, ◌≤◌, true, Some, length, OnOk, OnErr, IsErrOf};
 ghost use Rattle.om_stable.specs.Content.{nothing, with_all, bytes_of, IsFree, IsTaken};
 ghost use Rattle.om_stable.specs.Batches.{HasTableRoom, entered};

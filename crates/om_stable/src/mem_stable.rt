@@ -1,3 +1,5 @@
+//! A store in memory.
+
 ghost use Rattle.std.specs.Prelude.{◌≡◌, ◌≢◌, true, Some, None, IfSome, IsErrOf, OnErr, OnOk};
 ghost use Rattle.std.specs.FinMap as map;
 ghost use Rattle.om_stable.specs.Batches.{IsHeld, pruned_to, with_new};
@@ -32,7 +34,7 @@ impl Model for MemStable {
 }
 
 impl MemStable {
-    /// A store that holds nothing. It takes no memory until something is put.
+    /// Makes a store that holds nothing. It takes no memory until something is put.
     pub fn new(alloc: Global) -> Self
         ensures receipts { result.receipts ≡ map.empty }
         ensures checkpoints { result.checkpoints ≡ map.empty }

@@ -1,3 +1,5 @@
+//! The receipts of a store in memory: in a run, or in a tree.
+
 ghost use Rattle.std.specs.Prelude.{◌≡◌, ◌+◌, ◌≤◌, length, nat_le, IfOk, OnOk, OnErr};
 ghost use Rattle.std.specs.Bool.{OnTrue, OnFalse};
 ghost use Rattle.std.specs.FinMap as map;
@@ -81,7 +83,7 @@ impl Receipts {
         Ok(())
     }
 
-    // The records above `after` and at or below `to`, ascending.
+    // Returns the records above `after` and at or below `to`, ascending.
     pub(crate) fn between(
         &self,
         alloc: Global,

@@ -1,3 +1,5 @@
+//! Records in order, of which the first are dropped.
+
 ghost use Rattle.std.specs.Prelude.{◌≡◌, ◌≤◌, ◌+◌, ◌++◌, ◌∷◌, [], drop, take, length, OnOk, OnErr};
 ghost use Rattle.om_stable.specs.Content.{bytes_of};
 

@@ -1,3 +1,5 @@
+//! Records of intervals without a gap.
+
 ghost use Rattle.std.specs.Prelude.{◌≡◌, ◌+◌, ◌≤◌, length, nat_le, IfOk, OnErr};
 ghost use Rattle.std.specs.Bool.{OnTrue, OnFalse};
 ghost use Rattle.std.specs.FinMap as map;
@@ -93,7 +95,7 @@ impl RecordRun {
         Ok(tree)
     }
 
-    // The records above `after` and at or below `to`, ascending.
+    // Returns the records above `after` and at or below `to`, ascending.
     pub(crate) fn between(
         &self,
         alloc: Global,
@@ -129,7 +131,7 @@ impl RecordRun {
     }
 }
 
-// Of `len` records from `first` on, how many stand below `bound`.
+// Returns how many of `len` records from `first` on stand below `bound`.
 fn count_below(first: u64, len: usize, bound: u64) -> usize
     ensures { AreBelow first len bound result }
 {

@@ -1,3 +1,5 @@
+//! Records by interval.
+
 ghost use Rattle.std.specs.Prelude.{◌≡◌, ℕ, ◌+◌, ◌<◌, ◌≤◌, length, nat_le, Some, None, IsSome, is_some, IfOk, IfSome, IfNone, OnOk, OnErr};
 ghost use Rattle.std.specs.Bool.{OnTrue, OnFalse};
 ghost use Rattle.std.specs.FinMap as map;
@@ -106,7 +108,7 @@ impl RecordTree {
         }
     }
 
-    // The greatest record at or below `x`.
+    // Returns the greatest record at or below `x`.
     pub(crate) fn effective(
         &self,
         alloc: Global,
@@ -123,7 +125,7 @@ impl RecordTree {
         Ok(Some((*c, Vec::from_slice(alloc, bytes)?)))
     }
 
-    // The records above `after` and at or below `to`, ascending.
+    // Returns the records above `after` and at or below `to`, ascending.
     pub(crate) fn between(
         &self,
         alloc: Global,
@@ -167,7 +169,7 @@ impl RecordTree {
         }
     }
 
-    // The greatest interval that has a record.
+    // Returns the greatest interval that has a record.
     fn greatest(&self) -> Option<u32>
         ensures has { IfSome result (λ x. IsSome (map.get self.now x)) }
         ensures greatest { IfSome result (λ x. (y : ℕ) → x < y → map.get self.now y ≡ None) }
@@ -177,7 +179,7 @@ impl RecordTree {
         Some(*x)
     }
 
-    // The least interval that has a record.
+    // Returns the least interval that has a record.
     fn least(&self) -> Option<u32>
         ensures has { IfSome result (λ x. IsSome (map.get self.now x)) }
         ensures least { IfSome result (λ x. (y : ℕ) → y < x → map.get self.now y ≡ None) }

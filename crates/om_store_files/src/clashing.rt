@@ -66,7 +66,7 @@ pub fn clash_with_databases(rt: &HostRuntime, path: &str) -> Option<Clash> {
     }
 }
 
-// The first bytes of a file.
+// Reads the first bytes of a file.
 fn start_of(rt: &HostRuntime, path: &str) -> io::Result<Vec<u8>> {
     let mut start = Vec::new(rt.alloc());
     fs::open(rt, path)?
@@ -123,7 +123,7 @@ fn end_of_links(rt: &HostRuntime, path: &str) -> Result<PathBuf, AllocError> {
     Ok(place)
 }
 
-// The folder of a path, where there is one.
+// Returns the folder of a path, where there is one.
 fn folder_of(rt: &HostRuntime, path: Path<'_>) -> Option<Identity> {
     let folder = path.parent()?.as_str();
     let folder = if folder.is_empty() { "." } else { folder };
@@ -137,7 +137,7 @@ fn identity_at(rt: &HostRuntime, path: &str) -> Option<Identity> {
     }
 }
 
-// The regular file that a path leads to.
+// Returns the regular file that a path leads to.
 fn file_at(rt: &HostRuntime, path: &str) -> Option<Identity> {
     match fs::metadata(rt, path) {
         Ok(found) if found.is_file() => Some(Identity::of(&found)),

@@ -57,7 +57,7 @@ impl Model for Notes {
 }
 
 impl Notes {
-    /// Makes those of so many processes, which met no error yet. Refused only where memory ran out.
+    /// Makes the notes of so many processes, which met no error yet. Refused only where memory ran out.
     pub fn new(alloc: Global, n: usize) -> Result<Notes, AllocError>
         ensures many { IfOk result (λ notes. notes ≡ n) }
     {

@@ -122,7 +122,7 @@ fn make_one(rt: &HostRuntime, prefix: &str, process: usize) -> Result<Identity, 
     }
 }
 
-// An empty file at a name that nothing has.
+// Makes an empty file at a name that nothing has.
 fn new_file(rt: &HostRuntime, path: &str) -> io::Result<Identity> {
     let mut options = OpenOptions::new();
     options.write(true).create_new(true).mode(0o644);

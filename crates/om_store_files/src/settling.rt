@@ -17,7 +17,7 @@ pub fn settle<R: Threads + Sync>(threads: &R, rt: &HostRuntime, prefix: &str, n:
     let _ = map_indices(threads, rt.alloc(), n, &settles);
 }
 
-// The log is removed where it was copied to its end.
+// Removes the log where it was copied to its end.
 fn settle_one(rt: &HostRuntime, prefix: &str, process: usize) -> Result<(), AllocError> {
     let file = store_of(rt.alloc(), prefix, process)?;
     // The log lies beside the file itself, whatever links lead to it.

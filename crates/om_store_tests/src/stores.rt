@@ -60,6 +60,34 @@ static PRUNE_AND_PUT_LAST: [Row; 12] = [
     (Call::Effective(LAST - 1), Ok(&[2])),
 ];
 
+// Some of three, of four, of five, of eight and of nine at once, and of the last four intervals; one of five, whose third is there.
+static PUT_MANY_AT_ONCE: [Row; 13] = [
+    (Call::PutReceipts(1, 3), Ok(&[])),
+    (Call::PutReceipts(4, 4), Ok(&[])),
+    (Call::PutReceipts(8, 5), Ok(&[])),
+    (
+        Call::Receipts(0, LAST),
+        Ok(&[1, 2, 3, 4, 5, 6, 7, 8, 9, 10, 11, 12]),
+    ),
+    (Call::PutReceipts(15, 1), Ok(&[])),
+    (Call::PutReceipts(13, 5), Err(StoreError::Present)),
+    (Call::Receipts(11, LAST), Ok(&[12, 15])),
+    (Call::Cut(12), Ok(&[])),
+    (Call::PutReceipts(13, 8), Ok(&[])),
+    (Call::PutReceipts(21, 9), Ok(&[])),
+    (
+        Call::Receipts(11, LAST),
+        Ok(&[
+            12, 13, 14, 15, 16, 17, 18, 19, 20, 21, 22, 23, 24, 25, 26, 27, 28, 29,
+        ]),
+    ),
+    (Call::PutReceipts(LAST - 3, 4), Ok(&[])),
+    (
+        Call::Receipts(29, LAST),
+        Ok(&[LAST - 3, LAST - 2, LAST - 1, LAST]),
+    ),
+];
+
 // A kind of store.
 #[derive(Clone, Copy)]
 enum Kind {
@@ -70,7 +98,11 @@ enum Kind {
 
 // Plays each list of rows at an empty store of the kind.
 fn play_all(rt: &impl Abort, alloc: Global, kind: Kind) {
-    for rows in [CUT_AND_PUT_AGAIN.as_slice(), PRUNE_AND_PUT_LAST.as_slice()] {
+    for rows in [
+        CUT_AND_PUT_AGAIN.as_slice(),
+        PRUNE_AND_PUT_LAST.as_slice(),
+        PUT_MANY_AT_ONCE.as_slice(),
+    ] {
         match kind {
             Kind::Memory => play_in_memory(rt, alloc, rows),
             Kind::Fuse => play_behind_each(rt, alloc, rows),

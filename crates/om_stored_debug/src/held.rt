@@ -58,7 +58,7 @@ fn open_in(
     }
 }
 
-// The same of a store of five tables.
+// Shows the process of a store of five tables.
 #[inline(never)]
 fn open_of_five(
     alloc: Global,
@@ -68,7 +68,7 @@ fn open_of_five(
     open_store(alloc, &mut store, interval)
 }
 
-// The same of a store of two tables.
+// Shows the process of a store of two tables.
 #[inline(never)]
 fn open_of_two(
     alloc: Global,

@@ -57,7 +57,7 @@ abbrev pub deeds_of : ℕ → ℕ → State → List ReceiptRecord → List Deed
 deeds_of own n m [] = []
 deeds_of own n m (r ∷ rs) = Ran (turns_to m r) ∷ Took r.from r.body ∷ deeds_of own n (behind_receipt own n m r) rs
 
--- and two events: a run of so many instructions, and a message that begins an interval
+-- each receipt is two events: a run of so many instructions, and a message that begins an interval
 abbrev pub events_of : ℕ → ℕ → State → List ReceiptRecord → List Event
 events_of own n m [] = []
 events_of own n m (r ∷ rs) = events.Run own (turns_to m r) ∷ events.Give own r.interval ∷ events_of own n (behind_receipt own n m r) rs

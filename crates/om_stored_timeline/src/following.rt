@@ -30,7 +30,7 @@ pub(crate) struct Follower {
     pub(crate) deeds: Vec<Deed>,
 }
 
-// The receipt that these bytes spell, which names interval `y`, if they do.
+// Reads the receipt that these bytes spell, which names interval `y`, if they do.
 fn receipt_at(alloc: Global, y: u32, bytes: &[u8]) -> Result<Option<Receipt>, AllocError>
     ensures found { IfOk result (λ found. IfSome found (λ r. SpellsReceipt (receipt_record r) bytes.now)) }
     ensures named { IfOk result (λ found. IfSome found (λ r. r.interval ≡ y)) }

@@ -39,7 +39,7 @@ fn damaged(y: u32, error: DecodeError) -> ReplayFault
     }
 }
 
-// The checkpoint of interval `c` that these bytes spell.
+// Reads the checkpoint of interval `c` that these bytes spell.
 fn checkpoint_at(alloc: Global, c: u32, bytes: &[u8]) -> Result<Checkpoint, ReplayFault>
     ensures found { IfOk result (λ checkpoint. IsSpelled (checkpoint_record checkpoint) bytes.now) }
     ensures named { IfOk result (λ checkpoint. checkpoint.head.interval ≡ c) }
@@ -56,7 +56,7 @@ fn checkpoint_at(alloc: Global, c: u32, bytes: &[u8]) -> Result<Checkpoint, Repl
     }
 }
 
-// The checkpoint with which a replay to `x` begins.
+// Reads the checkpoint with which a replay to `x` begins.
 pub(crate) fn beginning<S: Stable>(
     alloc: Global,
     store: &mut S,
@@ -76,7 +76,7 @@ pub(crate) fn beginning<S: Stable>(
     }
 }
 
-// All receipts behind interval `c`.
+// Reads all receipts behind interval `c`.
 pub(crate) fn receipts_behind<S: Stable>(
     alloc: Global,
     store: &mut S,

@@ -48,7 +48,7 @@ pub fn stored_timeline<S: Stable>(
     }
 }
 
-// Right behind the last receipt.
+// Makes the timeline that stands right behind the last receipt.
 fn at_last<S: Stable>(alloc: Global, store: &mut S) -> Result<StoredTimeline, ReplayFault>
     ensures stands { IsCleanCall S.is_clean S.IsSound store.old store.new → IfOk result (IsStored (S.content store.old) None) }
     ensures refused { IsCleanCall S.is_clean S.IsSound store.old store.new → IfErr result (RefusesStored (S.content store.old) None) }
@@ -59,7 +59,7 @@ fn at_last<S: Stable>(alloc: Global, store: &mut S) -> Result<StoredTimeline, Re
     at_interval(alloc, store, x)
 }
 
-// The last interval to which the receipts behind the greatest checkpoint lead.
+// Returns the last interval to which the receipts behind the greatest checkpoint lead.
 fn last_of<S: Stable>(alloc: Global, store: &mut S) -> Result<u32, ReplayFault>
     ensures last { IsCleanCall S.is_clean S.IsSound store.old store.new → IfOk result (IsLastStored (S.content store.old)) }
     ensures refused { IsCleanCall S.is_clean S.IsSound store.old store.new → IfErr result (RefusesStart (S.content store.old) LAST_INTERVAL) }
@@ -71,7 +71,7 @@ fn last_of<S: Stable>(alloc: Global, store: &mut S) -> Result<u32, ReplayFault>
     Ok(last_along(alloc, &checkpoint, &rows)?)
 }
 
-// The same along these rows.
+// Returns the last interval to which these rows lead behind a checkpoint.
 fn last_along(
     alloc: Global,
     checkpoint: &Checkpoint,
@@ -88,7 +88,7 @@ fn last_along(
     Ok(follower.interval)
 }
 
-// Right behind the receipt of interval `x`.
+// Makes the timeline that stands right behind the receipt of interval `x`.
 fn at_interval<S: Stable>(
     alloc: Global,
     store: &mut S,
@@ -108,7 +108,7 @@ fn at_interval<S: Stable>(
     })
 }
 
-// The timeline from a checkpoint on, at interval `x`; where the machine alone does not come to that of the replay, from there on.
+// Makes the timeline from a checkpoint on, at interval `x`; where the machine alone does not come to that of the replay, from there on.
 fn timeline_at<S: Stable>(
     alloc: Global,
     store: &mut S,

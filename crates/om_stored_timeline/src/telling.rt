@@ -23,7 +23,7 @@ use om_timeline::{Deed, Timeline, copy_of};
 use om_world::Event;
 use std::alloc::{AllocError, Global};
 
-// The machine of a checkpoint.
+// Makes the machine of a checkpoint.
 pub(crate) fn machine_of(alloc: Global, checkpoint: &Checkpoint) -> Result<Machine, AllocError>
     ensures { IfOk result (λ machine. machine ≡ (process_of (checkpoint_record checkpoint.now)).machine) }
 {
@@ -35,7 +35,8 @@ pub(crate) fn machine_of(alloc: Global, checkpoint: &Checkpoint) -> Result<Machi
     }
 }
 
-// What the receipts of a store behind an interval did to process `process` of `n`, which had this machine there: before the first of them.
+// Tells what the receipts of a store behind an interval did to process `process` of `n`, which had this machine there: before the first
+// of them.
 pub(crate) fn told_from<S: Stable>(
     alloc: Global,
     store: &mut S,
@@ -54,7 +55,7 @@ pub(crate) fn told_from<S: Stable>(
     Ok(told_of(alloc, process, n, begin, machine, &rows)?)
 }
 
-// The same of these receipts.
+// Tells what these receipts behind an interval did to process `process` of `n`, which had this machine there.
 fn told_of(
     alloc: Global,
     process: Pid,
@@ -74,7 +75,7 @@ fn told_of(
     Timeline::told(alloc, process, n, first, events, deeds)
 }
 
-// What it came along, and so many turns behind it.
+// Returns the events and deeds that the follower came along, and so many turns behind them.
 fn ended(follower: Follower, process: Pid, rest: u64) -> Result<(Vec<Event>, Vec<Deed>), AllocError>
     ensures events { IfOk result (λ both. both.0.items ≡ follower.events.items ++ Event.Run process rest ∷ []) }
     ensures deeds { IfOk result (λ both. both.1.items ≡ follower.deeds.items ++ Deed.Ran rest ∷ []) }

@@ -118,7 +118,7 @@ pub fn push_recovery(text: &mut String, state: &[u32]) -> Result<(), AllocError>
     Ok(())
 }
 
-/// The word for why a frame was refused: empty where it was taken.
+/// Returns the word for why a frame was refused: empty where it was taken.
 pub fn why_word(answer: Answer) -> &'static str
     ensures { result.now ≡ why_word answer }
 {

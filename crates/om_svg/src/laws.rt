@@ -10,22 +10,22 @@ ghost use Rattle.om_svg.specs.Plain.{HasPlainNames, is_plain_text};
 ghost use Rattle.om_svg.specs.ShapeText.{told_text};
 ghost use Rattle.om_svg.specs.WordText.{content_text};
 
-/// What is told of a mark needs no escape.
+/// Proves that what is told of a mark needs no escape.
 pub fn titles_are_plain()
     ensures { (title : Title) → is_plain_text (told_text title) ≡ true }
 {}
 
-/// Nor does a recovery state.
+/// Proves that what is told of a recovery state needs no escape.
 pub fn states_are_plain()
     ensures { (state : List ℕ) → is_plain_text (recovery_text state) ≡ true }
 {}
 
-/// Nor do words, if the names of processes and programs need none.
+/// Proves that words need no escape, if the names of processes and programs need none.
 pub fn words_are_plain()
     ensures { (cluster : Cluster) → HasPlainNames cluster → (what : LabelContent) → is_plain_text (content_text cluster what) ≡ true }
 {}
 
-/// Names that a script may give need none.
+/// Proves that names that a script may give need no escape.
 pub fn names_are_plain()
     ensures { (name : List ℕ) → is_name name ≡ true → is_plain_text name ≡ true }
 {}

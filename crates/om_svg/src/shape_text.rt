@@ -15,7 +15,7 @@ use om_sheet::{
 use std::alloc::AllocError;
 use std::fmt::Write;
 
-/// The height of a lane.
+/// Returns the height of a lane.
 pub fn height(lane: u32) -> u64
     ensures { result ≡ height lane }
 {
@@ -316,7 +316,7 @@ fn push_place(text: &mut String, spot: Spot) -> Result<(), AllocError>
     write!(text, "L{x} {y}v20")
 }
 
-// The class of a mark.
+// Returns the class of a mark.
 fn class_of(glyph: Glyph) -> &'static str
     ensures { result.now ≡ class_of glyph }
 {
@@ -359,7 +359,7 @@ fn above_of(glyph: Glyph) -> u64
     }
 }
 
-// The path of a mark, from there on.
+// Returns the path of a mark, from there on.
 fn path_of(glyph: Glyph) -> &'static str
     ensures { result.now ≡ path_of glyph }
 {

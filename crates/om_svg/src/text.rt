@@ -101,7 +101,7 @@ fn key() -> &'static str
     LEGEND
 }
 
-/// The text of a picture.
+/// Makes the text of a picture.
 #[tactic(auto, unfolding(crate::specs::PictureText::picture_text))]
 pub fn picture_text(alloc: Global, programs: &Programs, drawn: &Drawn) -> Result<String, AllocError>
     ensures { IfOk result (λ text. string_bytes text ≡ picture_text programs.now drawn.now) }

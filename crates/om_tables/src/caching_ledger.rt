@@ -99,7 +99,7 @@ impl Cache {
     }
 }
 
-// Those of some receipts that are at or below `to`.
+// Returns those of some receipts that are at or below `to`.
 fn up_to(mut rows: Vec<(u32, Vec<u8>)>, to: u32) -> Vec<(u32, Vec<u8>)>
     ensures { rows_of result.items ≡ filter (λ e. nat_le e.0 to) (rows_of rows.items) }
 {
@@ -107,7 +107,7 @@ fn up_to(mut rows: Vec<(u32, Vec<u8>)>, to: u32) -> Vec<(u32, Vec<u8>)>
     rows
 }
 
-// A copy of some receipts.
+// Copies some receipts.
 fn copied(alloc: Global, rows: &[(u32, Vec<u8>)]) -> Result<Vec<(u32, Vec<u8>)>, AllocError>
     ensures { IfOk result (λ copy. rows_of copy.items ≡ rows_of rows.now) }
 {

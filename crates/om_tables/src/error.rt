@@ -1,3 +1,5 @@
+//! Why a connection is not taken as a store.
+
 use crate::refusal::Refusal;
 use thiserror::Error;
 

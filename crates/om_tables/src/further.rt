@@ -11,7 +11,7 @@ use om_stable::{LedgerTable, WriteBatch};
 use sqlite::{Alter, Connection, Row, Transaction, params};
 use std::alloc::Global;
 
-// The number of a row of a table that holds `first + k`, which is below 2^63.
+// Returns the number of a row of a table that holds `first + k`, which is below 2^63.
 fn number_of(first: u64, k: usize) -> i64
     requires { first + k + 1 ≤ LEDGER_NUMBERS }
     ensures { result ≡ pos (first + k) }
@@ -82,7 +82,7 @@ fn insert_rows<S: Alter>(
     Ok(())
 }
 
-// All or none.
+// Puts rows into a table from number `first` on, all or none.
 pub(crate) fn put_rows<S: Alter>(
     conn: &mut Connection<S>,
     table: LedgerTable,
@@ -132,7 +132,7 @@ fn rows_in_table<S: Alter>(
     query_all(conn, text, &[])
 }
 
-// The number and the bytes that a row shows. A number below 0 is out of range.
+// Reads the number and the bytes that a row shows. A number below 0 is out of range.
 fn numbered_in(row: &Row) -> Result<(u64, Vec<u8>), Refusal> {
     Ok((read(row, 0)?, read(row, 1)?))
 }

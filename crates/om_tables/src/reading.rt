@@ -12,7 +12,7 @@ use crate::refusal::{Refusal, query_all, read};
 use sqlite::{Alter, Connection, Row, params};
 use std::alloc::Global;
 
-// A row, where one of the intervals from `first` to `last` has a receipt.
+// Returns a row, where one of the intervals from `first` to `last` has a receipt.
 fn any_receipt_rows<S: Alter>(
     conn: &mut Connection<S>,
     first: u32,
@@ -31,7 +31,7 @@ fn any_receipt_rows<S: Alter>(
     )
 }
 
-// A row, where one of the intervals from `first` to `last` has a checkpoint.
+// Returns a row, where one of the intervals from `first` to `last` has a checkpoint.
 fn any_checkpoint_rows<S: Alter>(
     conn: &mut Connection<S>,
     first: u32,
@@ -87,7 +87,7 @@ pub(crate) fn has_checkpoint<S: Alter>(conn: &mut Connection<S>, x: u32) -> Resu
     Ok(!rows.is_empty())
 }
 
-// The interval and the bytes that a row shows.
+// Reads the interval and the bytes that a row shows.
 fn record_in(row: &Row) -> Result<(u32, Vec<u8>), Refusal>
     ensures { IfOk result (λ found. (found.0, found.1.items) ≡ shown_entry row.now) }
 {
@@ -104,7 +104,7 @@ fn records_in(alloc: Global, rows: &[Row]) -> Result<Vec<(u32, Vec<u8>)>, Refusa
     Ok(found)
 }
 
-// The receipts above `after` and at or below `to`, as rows.
+// Returns the receipts above `after` and at or below `to`, as rows.
 fn receipt_rows<S: Alter>(
     conn: &mut Connection<S>,
     after: u32,
@@ -123,7 +123,7 @@ fn receipt_rows<S: Alter>(
     )
 }
 
-// The receipts above `after` and at or below `to`.
+// Returns the receipts above `after` and at or below `to`.
 pub(crate) fn receipts<S: Alter>(
     conn: &mut Connection<S>,
     alloc: Global,
@@ -140,7 +140,7 @@ pub(crate) fn receipts<S: Alter>(
     records_in(alloc, &rows)
 }
 
-// The greatest checkpoint at or below `x`, as a row, if there is one.
+// Returns the greatest checkpoint at or below `x`, as a row, if there is one.
 fn effective_rows<S: Alter>(conn: &mut Connection<S>, x: u32) -> Result<Vec<Row>, Refusal>
     requires idle { (state S.Store conn.old).in_transaction ≡ false }
     ensures idle { (state S.Store conn.new).in_transaction ≡ false }
@@ -169,7 +169,7 @@ fn first_in(rows: &[Row]) -> Result<Option<(u32, Vec<u8>)>, Refusal>
     }
 }
 
-// The greatest checkpoint at or below `x`.
+// Returns the greatest checkpoint at or below `x`.
 pub(crate) fn effective<S: Alter>(
     conn: &mut Connection<S>,
     x: u32,

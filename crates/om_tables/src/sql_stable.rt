@@ -102,7 +102,7 @@ impl<S: Alter> SqlStable<S> {
         Ok(SqlStable::over(conn))
     }
 
-    /// The connection, with its tables.
+    /// Gives back the connection, with its tables.
     pub fn into_connection(self) -> Connection<S>
         ensures { result ≡ self.connection }
     {

@@ -12,8 +12,8 @@ ghost use Rattle.om_take_up.specs.Anew.{IsNew};
 ghost use Rattle.om_take_up.specs.Orders.{Act, AreOfEach, ComeInTurn, StartsOver};
 ghost use Rattle.om_take_up.specs.TakenUp.{RiseFrom};
 
-/// A start in which each process reaches the manager by itself is a restart too: in whatever order the processes tell what their stores
-/// held and then that they failed, the manager comes to be as a restart makes it over these stores.
+/// Proves that a start in which each process reaches the manager by itself is a restart too: in whatever order the processes tell what
+/// their stores held and then that they failed, the manager comes to be as a restart makes it over these stores.
 pub fn any_order_is_a_restart()
     ensures { (n : ℕ) (held : ℕ → Content) (rows : ℕ → List PendingRow) (outputs : ℕ → List Made) (acts : List Act)
         (first last : ManagerState) → IsNew n first → IsManager first → ((p : ℕ) → p < n → AreRowsOf p n (held p) (rows p))

@@ -6,7 +6,7 @@ ghost use Rattle.om_text.specs.declared.error.ScriptError.{ScriptError};
 ghost use Rattle.om_text.specs.FirstFaulty.{IsFirstFaulty};
 ghost use Rattle.om_text.specs.Script.{Meaning, script_from};
 
-/// A script's error is that of its first faulty line, and where there is one, it is the script's.
+/// Proves that a script's error is that of its first faulty line, and where there is one, it is the script's.
 pub fn first_faulty_line_counts<State>()
     ensures { (meaning : Meaning State) (number : ℕ)
         (state : State) (lines : List (List (List ℕ))) (error : ScriptError)
@@ -14,7 +14,7 @@ pub fn first_faulty_line_counts<State>()
         ↔ IsFirstFaulty meaning number state lines error }
 {}
 
-/// The limits of an input, in bytes, and of the reads that it takes are these.
+/// Proves that the limits of an input, in bytes, and of the reads that it takes are these.
 pub fn limits()
     ensures bytes { MAX_BYTES ≡ 16777216 }
     ensures turns { MAX_TURNS ≡ 33554432 }

@@ -3,7 +3,7 @@
 ghost use Rattle.std.specs.Prelude.{◌≡◌, ◌==◌, ◌<◌, ◌↔◌, [], ◌∷◌, length, position, IsNone, IfSome};
 ghost use Rattle.om_text.specs.Lines.{lines_of, without_return};
 
-// The first line without its end, and what follows it; none of an empty text.
+// Returns the first line without its end, and what follows it; none of an empty text.
 pub(crate) fn split_line(text: &[u8]) -> Option<(&[u8], &[u8])>
     ensures none { IsNone result ↔ (text.now ≡ []) }
     ensures first { IfSome result (λ parts.
@@ -19,7 +19,7 @@ pub(crate) fn split_line(text: &[u8]) -> Option<(&[u8], &[u8])>
     }
 }
 
-// The place of the first LF.
+// Returns the place of the first LF.
 fn line_end(text: &[u8]) -> Option<usize>
     ensures { result ≡ position (λ byte. byte == 10) text.now }
 {

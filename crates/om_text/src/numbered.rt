@@ -9,7 +9,7 @@ use crate::lines::split_line;
 use crate::words::{is_passed_over, split_words};
 use std::alloc::{AllocError, Global};
 
-/// The numbers, from 1, of the lines of a text that are not passed over.
+/// Returns the numbers, from 1, of the lines of a text that are not passed over.
 pub fn numbered_lines(alloc: Global, text: &[u8]) -> Result<Vec<usize>, AllocError>
     ensures { IfOk result (λ numbers. numbers.items ≡ numbered 1 (map words_of (lines_of text.now))) }
 {

@@ -7,14 +7,14 @@ ghost use Rattle.om_text.specs.Numbers.{are_digits, below, hex_word, long_number
 // How many hexadecimal digits a word of the machine has.
 const HEX_WORD_DIGITS: usize = 8;
 
-/// A number in decimal digits, below 2^32: with any number of leading zeros, and no sign.
+/// Reads a number in decimal digits, below 2^32: with any number of leading zeros, and no sign.
 pub fn number_of(word: &[u8]) -> Option<u32>
     ensures { result ≡ number_of word.now }
 {
     narrow(long_number_of(word)?)
 }
 
-/// A number in decimal digits, below 2^64: with any number of leading zeros, and no sign.
+/// Reads a number in decimal digits, below 2^64: with any number of leading zeros, and no sign.
 pub fn long_number_of(word: &[u8]) -> Option<u64>
     ensures { result ≡ long_number_of word.now }
 {
@@ -24,7 +24,7 @@ pub fn long_number_of(word: &[u8]) -> Option<u64>
     value_of(word, 10)
 }
 
-/// A word of the machine in eight hexadecimal digits, in either case.
+/// Reads a word of the machine in eight hexadecimal digits, in either case.
 pub fn hex_word(word: &[u8]) -> Option<u32>
     ensures { result ≡ hex_word word.now }
 {
@@ -34,7 +34,7 @@ pub fn hex_word(word: &[u8]) -> Option<u32>
     narrow(value_of(word, 16)?)
 }
 
-// The number, where it is below 2^32.
+// Returns the number, where it is below 2^32.
 fn narrow(number: u64) -> Option<u32>
     ensures { result ≡ below (2 ^ 32) (Some number) }
 {

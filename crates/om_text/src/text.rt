@@ -74,8 +74,7 @@ pub fn read_text<R: Read>(alloc: Global, reader: &mut R) -> Result<Vec<u8>, Read
     Err(ReadError::CannotRead)
 }
 
-// One turn: reads into the chunk, and puts what came at the end of the text. Answers whether the
-// input has ended.
+// Reads into the chunk, and puts what came at the end of the text. Answers whether the input has ended.
 fn read_more<R: Read>(
     reader: &mut R,
     chunk: &mut [u8],

@@ -24,7 +24,7 @@ fn is_blank(byte: u8) -> bool
     byte == b' ' || byte == b'\t'
 }
 
-// Empty lines, and those whose first word begins with `#`.
+// Returns whether a line of these words is passed over: it is empty, or its first word begins with `#`.
 pub(crate) fn is_passed_over(words: &[&[u8]]) -> bool
     ensures { result ≡ is_passed_over (map (λ word. word.now) words.now) }
 {

@@ -88,7 +88,7 @@ impl<T> Opened<T> {
         }
     }
 
-    /// The book under a name.
+    /// Returns the book under a name.
     pub fn named<J: Series>(self) -> Book<J, T>
         requires { self.seen.book ≡ J.book }
     {

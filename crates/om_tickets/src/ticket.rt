@@ -26,7 +26,7 @@ impl<J: Series, T> Model for Ticket<J, T> {
 }
 
 impl<J: Series, T> Ticket<J, T> {
-    // Of so many that were seen.
+    // Makes a ticket of what was seen, with its number.
     pub(crate) fn of(number: u64, seen: Seen<T, u64, Law>) -> Ticket<J, T>
         requires { (number ≡ length seen.log) × (seen.book ≡ J.book) }
         ensures { result ≡ seen.log }
@@ -38,7 +38,7 @@ impl<J: Series, T> Ticket<J, T> {
         }
     }
 
-    // Its number.
+    // Returns the number of the ticket.
     pub(crate) fn number(&self) -> u64
         ensures { result ≡ length self.now }
     {
@@ -54,7 +54,7 @@ impl<J: Series, T> Ticket<J, T> {
         self.number == other.number
     }
 
-    // Another of the same.
+    // Returns the same ticket once more.
     pub(crate) fn again(&self) -> Ticket<J, T>
         ensures { result ≡ self.now }
     {

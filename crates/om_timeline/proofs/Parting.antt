@@ -32,7 +32,7 @@ use Rattle.om_world.specs.declared.event.Event.TheVariants as events
 use Rattle.om_world.specs.declared.event.Refusal.{Refusal}
 use Rattle.om_world.specs.declared.event.Refusal.TheVariants as refusals
 use Rattle.om_world.specs.Changes.{Changes, HoldsMore, made_by, messages_behind, new_messages}
-use Rattle.om_world.specs.Happened.{Happened, RunHappened, RunStopped}
+use Rattle.om_world.specs.Happened.{Happened, RunHappened, RunStopped, UnlessUp}
 use Rattle.om_world.specs.Played.{Step}
 use Rattle.om_world.specs.World.{IsKnown, WorldState}
 use Rattle.om_world.proofs.Keeping.{keeps_same}
@@ -235,28 +235,28 @@ run_over old mid new own n p fuel done k steps all sent made m status s r is wit
 
 -- ---- events
 -- a refusal does not hang on how long the run is to be
+unless_more : (old new : WorldState) (p : ℕ) (why : Refusal) (A B : Type 0) → (A → B) → UnlessUp old p why new A → UnlessUp old p why new B
+unless_more old new p refusals.NoProcess A B by h = h
+unless_more old new p refusals.NotUp A B by h = h
+unless_more old new p why A B by h = (h.0, by h.1)
+
 run_refused : (old new : WorldState) (p k fuel : ℕ) (why : Refusal) → k ≤ fuel → Happened old (events.Run p k) (answers.Refused why) new → Happened old (events.Run p fuel) (answers.Refused why) new
-run_refused old new p k fuel refusals.NoProcess within h = h
-run_refused old new p k fuel refusals.NotUp within h = h
-run_refused old new p k fuel refusals.Memory within h = record {
-  before = h.before;
-  after = h.after;
-  changes = h.changes;
-  turns = let few = h.turns.1 in (h.turns.0, omega (arith, few, within), h.turns.2);
-  rest = h.rest;
-  frames = h.frames;
-  manager = h.manager;
-  contents = h.contents;
-  since = h.since;
-}
-run_refused old new p k fuel refusals.NoFrame within h = absurd h
-run_refused old new p k fuel refusals.NotIn within h = absurd h
-run_refused old new p k fuel refusals.NoRound within h = absurd h
-run_refused old new p k fuel refusals.Spent within h = absurd h
-run_refused old new p k fuel refusals.Present within h = absurd h
-run_refused old new p k fuel refusals.Fault within h = absurd h
-run_refused old new p k fuel refusals.Damaged within h = absurd h
-run_refused old new p k fuel refusals.Unsettled within h = absurd h
+run_refused old new p k fuel why within h =
+    unless_more old new p why _ ((why ≡ refusals.Memory) × RunStopped old p fuel new) (λ r.
+    let s = r.1 in (
+      r.0,
+      record {
+        before = s.before;
+        after = s.after;
+        changes = s.changes;
+        turns = let few = s.turns.1 in (s.turns.0, omega (arith, few, within), s.turns.2);
+        rest = s.rest;
+        frames = s.frames;
+        manager = s.manager;
+        contents = s.contents;
+        since = s.since;
+      },
+    )) h
 
 -- a run that stands before its fuel is used up does not hang on it
 run_short : (old new : WorldState) (p k fuel : ℕ) (a : Answer) → k ≤ fuel → (UsesUp k a → ⊥) → Happened old (events.Run p k) a new → Happened old (events.Run p fuel) a new

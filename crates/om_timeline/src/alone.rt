@@ -55,7 +55,7 @@ impl Alone {
         is_inside
     }
 
-    // One turn at this event of the machine, if there is one.
+    // Takes one turn at this event of the machine, if there is one.
     #[tactic(auto, using(crate::proofs::Finishing::sends_as, crate::proofs::Finishing::refuses_send, crate::proofs::Finishing::puts_out_as, crate::proofs::Finishing::refuses_output, crate::proofs::Finishing::tells, crate::proofs::Finishing::ended, crate::proofs::Finishing::trapped, crate::proofs::Finishing::waits))]
     fn turn(&mut self, event: Event) -> bool
         requires at { (next_of self.old.machine).0 ≡ event }

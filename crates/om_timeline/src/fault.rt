@@ -1,3 +1,5 @@
+//! Why a record is not played on.
+
 use std::alloc::AllocError;
 
 /// Why a record is not played on.

@@ -21,7 +21,7 @@ pub(crate) enum Kind {
     NoMemory,
 }
 
-// Of which kind an event was for the process of a number, by its answer.
+// Returns of which kind an event was for the process of a number, by its answer.
 pub(crate) fn kind_of(process: usize, answer: Answer, event: Event) -> Kind
     ensures kind { result ≡ kind_of process answer event }
     ensures is { IsKind process answer event result }

@@ -53,7 +53,7 @@ impl Model for Player {
     ghost invariant = { λ s. IsPlayer s.part s.world };
 }
 
-// The one answer.
+// Returns the one answer.
 fn only(answers: &[Answer]) -> Answer
     requires { length answers.now ≡ 1 }
     ensures { answers.now ≡ result ∷ [] }
@@ -90,7 +90,7 @@ fn uses_up(answer: Answer, turns: u64) -> bool
 }
 
 impl Player {
-    // Between events.
+    // Makes a player that stands between events.
     pub(crate) fn new(world: World<MemStable>) -> Player
         requires { IsKnown world }
         ensures before { result.before ≡ world }
@@ -99,7 +99,7 @@ impl Player {
         Player { world, part: None }
     }
 
-    // The world, where no run has begun.
+    // Returns the world, where no run has begun.
     pub(crate) fn world(&self) -> &World<MemStable>
         ensures { self.now.begun ≡ None → result.now ≡ self.now.before }
     {
@@ -118,7 +118,7 @@ impl Player {
         }
     }
 
-    // The same of an event that has not begun: so many turns are a part.
+    // Plays an event as `play` does that has not begun: so many turns are a part.
     fn begin(
         &mut self,
         alloc: Global,
@@ -149,7 +149,7 @@ impl Player {
         Ok(Some(answer))
     }
 
-    // The machine of a process so many turns on, if the process makes nothing in them.
+    // Returns the machine of a process so many turns on, if the process makes nothing in them.
     #[tactic(auto, using(crate::proofs::Parting::ahead_of))]
     fn ahead(&self, alloc: Global, process: usize, turns: u64) -> Result<Option<Alone>, AllocError>
         requires { self.now.begun ≡ None }

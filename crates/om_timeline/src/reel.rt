@@ -50,7 +50,8 @@ impl Model for Reel {
 }
 
 impl Reel {
-    // Of a record, none of whose events was played. None, where the world has no such process, or it has finished too many instructions.
+    // Makes the reel of a record, none of whose events was played. None, where the world has no such process, or it has finished too
+    // many instructions.
     pub(crate) fn played(
         alloc: Global,
         world: World<MemStable>,
@@ -74,7 +75,7 @@ impl Reel {
         }
     }
 
-    // Of events, each of which did this.
+    // Makes the reel of events, each of which did this.
     pub(crate) fn told(
         process: Pid,
         n: u32,
@@ -106,7 +107,7 @@ impl Reel {
         }
     }
 
-    // The events of the record.
+    // Returns the events of the record.
     pub(crate) fn events(&self) -> &[Event]
         ensures { result.now ≡ self.now.events }
     {
@@ -126,7 +127,7 @@ impl Reel {
         }
     }
 
-    // The machine of the process at the start.
+    // Returns the machine of the process at the start.
     pub(crate) fn first(&self) -> &Machine
         ensures { result.now ≡ self.now.first }
     {
@@ -136,7 +137,7 @@ impl Reel {
         }
     }
 
-    // That a record that is played is that of a world.
+    // Tells that a record that is played is that of a world.
     pub(crate) fn told_of(&self)
         ensures { IfSome self.now.begun (λ begun. (last : WorldState) × IsFilmed (tape_from self.now begun) last) }
     {

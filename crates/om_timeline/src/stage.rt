@@ -85,7 +85,7 @@ pub(crate) fn thin(stages: &mut Vec<Stage>)
     stages.truncate(left);
 }
 
-// A position so many instructions and events before another, or the first.
+// Returns a position so many instructions and events before another, or the first.
 pub(crate) fn before(deeds: &[Deed], to: Position, ticks: u64) -> Position
     requires { to.turns ≤ turns_at deeds.now to.event }
     ensures order { IsUpTo result.event result.turns to.event to.turns }

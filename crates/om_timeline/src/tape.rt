@@ -35,7 +35,7 @@ pub(crate) fn is_seated(world: &World<MemStable>, process: Pid, n: u32) -> bool
     }
 }
 
-// The receipt of the frame of a number.
+// Returns the receipt of the frame of a number.
 #[tactic(auto, using(crate::proofs::Reading::is_received))]
 fn received(
     alloc: Global,
@@ -51,7 +51,7 @@ fn received(
     }
 }
 
-// The machine that the process has.
+// Copies the machine that the process has.
 #[tactic(auto, using(crate::proofs::Reading::is_machine))]
 fn machine_now(alloc: Global, world: &World<MemStable>, process: Pid) -> Result<Deed, AllocError>
     ensures { IfOk result (λ deed. IsDeed deed process world.now Kind.Back) }
@@ -142,7 +142,8 @@ impl Model for Tape {
 }
 
 impl Tape {
-    // Of no event yet. None, where the world has no such process, or it has finished too many instructions.
+    // Makes the tape of no event yet. None, where the world has no such process, or it has finished too many
+    // instructions.
     #[tactic(auto, using(crate::proofs::Taping::none_there, crate::proofs::Taping::none_seated, crate::proofs::Taping::can_begin))]
     pub(crate) fn new(
         alloc: Global,
@@ -186,7 +187,7 @@ impl Tape {
         &self.deeds
     }
 
-    // The events of the record.
+    // Returns the events of the record.
     pub(crate) fn events(&self) -> &[Event]
         ensures { result.now ≡ self.now.events }
     {
@@ -200,14 +201,14 @@ impl Tape {
         self.n
     }
 
-    // The machine of the process at the start.
+    // Returns the machine of the process at the start.
     pub(crate) fn first(&self) -> &Machine
         ensures { result.now ≡ self.now.first }
     {
         &self.first
     }
 
-    // That the tape is one of a world that was played.
+    // Tells that the tape is one of a world that was played.
     pub(crate) fn told(&self)
         ensures filmed { (last : WorldState) × IsFilmed self.now last }
         ensures within { length self.now.deeds ≤ length self.now.events }

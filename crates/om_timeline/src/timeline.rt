@@ -143,7 +143,7 @@ impl Timeline {
         })
     }
 
-    /// The position.
+    /// Returns the position at which the process stands in the record.
     pub fn position(&self) -> Position
         ensures event { result.event ≡ self.now.event }
         ensures turns { result.turns ≡ self.now.turns }
@@ -153,7 +153,7 @@ impl Timeline {
         self.at
     }
 
-    /// The machine of the process at the position: of a process that is down, the one that it had.
+    /// Returns the machine of the process at the position: of a process that is down, the one that it had.
     pub fn machine(&self) -> &Machine
         ensures here { result.now ≡ machine_here self.now }
         ensures shown { IfSome self.now.begun
@@ -170,7 +170,7 @@ impl Timeline {
         self.here.status()
     }
 
-    /// The events of the record.
+    /// Returns the events of the record.
     pub fn events(&self) -> &[Event]
         ensures { result.now ≡ self.now.events }
     {

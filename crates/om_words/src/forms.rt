@@ -18,8 +18,8 @@ fn stands_for_any(word: &str) -> bool {
     word.bytes().all(|byte| byte.is_ascii_uppercase())
 }
 
-/// The words of the lines of a text from the one that begins with `first`, up to the next one that begins with `next` or the
-/// end: each between two spaces, without a comma or a semicolon behind it. Empty where no line begins so.
+/// Returns the words of the lines of a text from the one that begins with `first`, up to the next one that begins with
+/// `next` or the end: each between two spaces, without a comma or a semicolon behind it. Empty where no line begins so.
 pub fn section(alloc: Global, text: &str, first: &str, next: &str) -> Result<String, AllocError> {
     let mut found = String::new(alloc);
     for line in text.lines() {

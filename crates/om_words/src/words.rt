@@ -33,7 +33,7 @@ pub struct Group {
     pub help: &'static str,
     /// The line of the help that begins the section begins so.
     pub first: &'static str,
-    /// And the line behind it, if there is one.
+    /// The line behind that one begins so, if there is one.
     pub next: &'static str,
     pub rows: &'static [Row],
 }
@@ -252,7 +252,7 @@ pub fn answers() -> Group {
     }
 }
 
-/// A word as it is printed.
+/// Returns a word as it is printed.
 pub fn printed(alloc: Global, word: Word) -> Result<String, AllocError> {
     let mut text = String::new(alloc);
     match word {

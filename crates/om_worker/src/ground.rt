@@ -31,7 +31,7 @@ pub struct Cluster<'s, K: Naming, R, G, O> {
     pub census: &'s Census,
     /// Who observes the run.
     pub observers: Observers<'s>,
-    /// By sender, and there by receiver.
+    /// The inboxes, by sender, and there by receiver.
     pub inboxes: &'s [Vec<Inbox>],
     /// By process, what wakes its worker.
     pub bells: &'s [Bell],
@@ -43,7 +43,7 @@ pub struct Cluster<'s, K: Naming, R, G, O> {
 #[derive(Drop)]
 pub struct Ground<K: Naming> {
     pub shared: Shared<K>,
-    /// By sender, and there by receiver.
+    /// The inboxes, by sender, and there by receiver.
     pub inboxes: Vec<Vec<Inbox>>,
     pub bells: Vec<Bell>,
     pub received: Vec<Received>,
@@ -52,7 +52,8 @@ pub struct Ground<K: Naming> {
     pub census: Census,
 }
 
-/// Makes that of as many processes as the cell is for, with the passes of each. Refused where memory runs out.
+/// Makes the ground of as many processes as the cell is for, with the passes of each. Refused where memory runs
+/// out.
 pub fn ground_of<K: Naming>(
     alloc: Global,
     n: usize,
@@ -78,7 +79,7 @@ pub fn ground_of<K: Naming>(
     Ok((ground, ends, passes))
 }
 
-// A bell for each of so many processes.
+// Makes a bell for each of so many processes.
 fn bells_of(alloc: Global, n: usize) -> Result<Vec<Bell>, AllocError> {
     let mut bells = Vec::with_capacity(alloc, n)?;
     for _ in 0..n {

@@ -37,7 +37,7 @@ pub(crate) struct Taken {
 }
 
 impl Taken {
-    // The message.
+    // Returns the message that was taken.
     pub(crate) fn message(&self) -> &Message
         ensures { result.now ≡ self.now.message }
     {
@@ -115,7 +115,7 @@ fn received_of(received: &[Received], from: Pid) -> [u32; MAX_PROCESSES] {
     counts
 }
 
-// Where nothing is left to put, all is to be put from the first on that its receiver lacks of its sender.
+// Has all put from the first on that its receiver lacks of its sender, where nothing is left to put.
 fn from_the_first_lacked(
     next: &mut [u32; MAX_PROCESSES],
     left: &[bool; MAX_PROCESSES],
@@ -232,8 +232,8 @@ impl<'a> Links<'a> {
         }
     }
 
-    // The same for a millisecond, in naps. Each that ends has the system choose anew who is to run, where another worker was woken
-    // and waits until a busy program's time slice ends.
+    // Sleeps until its worker is woken, for a millisecond at most, in naps. Each that ends has the system choose anew who is to run,
+    // where another worker was woken and waits until a busy program's time slice ends.
     pub(crate) fn nap<R: Wait>(&self, rt: &R) -> bool {
         match self.bells.get(self.own.index()) {
             Some(bell) => bell.nap(rt, Duration::from_micros(NAP), NAPS),

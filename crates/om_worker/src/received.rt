@@ -13,7 +13,7 @@ pub struct Received {
 }
 
 impl Received {
-    // Of a process at its start, among n.
+    // Makes the counts of a process at its start, among `n`.
     pub(crate) fn new(alloc: Global, n: usize) -> Result<Received, AllocError> {
         let mut counts = Vec::with_capacity(alloc, n)?;
         for _ in 0..n {
@@ -22,14 +22,14 @@ impl Received {
         Ok(Received { counts })
     }
 
-    // So many of a sender's messages were received.
+    // Tells that so many of a sender's messages were received.
     pub(crate) fn tell(&self, from: Pid, count: u32) {
         if let Some(told) = self.counts.get(from.index()) {
             told.store(count, SeqCst);
         }
     }
 
-    // The process stands where it has received so many of each.
+    // Tells that the process stands where it has received so many of each.
     pub(crate) fn tell_all(&self, got: &DepVec) {
         for (told, count) in self.counts.iter().zip(got.as_slice()) {
             told.store(*count, SeqCst);

@@ -42,7 +42,7 @@ pub struct Census {
 }
 
 impl Census {
-    // Of a run in which nobody has looked.
+    // Makes the census of a run in which nobody has looked.
     pub(crate) fn new() -> Census {
         Census {
             opened: AtomicU64::new(0),
@@ -51,12 +51,13 @@ impl Census {
         }
     }
 
-    // A store is opened.
+    // Counts a store that is opened.
     fn open(&self) {
         self.opened.fetch_add(1, SeqCst);
     }
 
-    // A process has looked, and found this. What lies beyond a start is counted first: who sees that all have looked sees it too.
+    // Counts a process that has looked, and found this. What lies beyond a start is counted first: who sees that all have looked
+    // sees it too.
     fn look(&self, found: &Found) {
         if found.is_beyond_start() {
             self.beyond.fetch_add(1, SeqCst);
@@ -70,7 +71,7 @@ impl Census {
     }
 }
 
-// As the run's caller is told why a store is not taken up.
+// Returns why a store is not taken up, as the run's caller is told.
 fn found_fault(fault: FindFault, pid: Pid) -> RunFault
     ensures named { result ≡ refusal_of_found fault pid }
     ensures fault { IsFaultBy pid result }
@@ -86,7 +87,7 @@ fn found_fault(fault: FindFault, pid: Pid) -> RunFault
     }
 }
 
-// As the run's caller is told why a store was not made.
+// Returns why a store was not made, as the run's caller is told.
 pub(crate) fn open_fault(fault: OpenFault, pid: Pid) -> RunFault
     ensures named { result ≡ refusal_of_opening fault pid }
     ensures fault { IsFaultBy pid result }
@@ -98,7 +99,7 @@ pub(crate) fn open_fault(fault: OpenFault, pid: Pid) -> RunFault
     }
 }
 
-// As the run's caller is told why a store did not take what it says that it is of.
+// Returns why a store did not take what it says that it is of, as the run's caller is told.
 fn put_fault(error: StoreError, pid: Pid) -> RunFault
     ensures { IsFaultBy pid result }
 {
@@ -196,7 +197,7 @@ fn put_about<S: Ledger>(
     }
 }
 
-// The one record of what a store is of.
+// Makes the one record of what a store is of.
 fn about_recs(alloc: Global, image: &Image, pid: Pid, n: usize) -> Result<Vec<Vec<u8>>, AllocError>
     requires { n ≤ MAX_PROCESSES }
     ensures { IfOk result (λ recs. length recs.items ≡ 1) }
@@ -233,8 +234,8 @@ fn make_missing<S: Ledger>(
     }
 }
 
-// A process that is down over what an earlier run left of it, or over a start, and how many turns are left. The manager was told
-// of what its store holds; that it failed is still to be told.
+// Takes up what an earlier run left of a process, or starts one where it left nothing, and tells the manager what its store holds.
+// Returns the process, which is down, and how many turns are left. That it failed is still to be told.
 pub(crate) fn take_up<'a, K: Naming, J: Series, R: Wait + Clock, G, O: Opener<R>>(
     cluster: &Cluster<'a, K, R, G, O>,
     worker: &mut Worker<'a, K>,

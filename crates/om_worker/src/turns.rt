@@ -33,7 +33,7 @@ pub(crate) enum AfterTurn<'a, K: Naming, J: Series, S: Stable> {
     Over(Status, Harvest<K>, S),
 }
 
-// The end of a process of which as many outputs are released as it made. Until they are it goes on.
+// Ends a process of which as many outputs are released as it made. Until they are it goes on.
 #[inline(never)]
 fn leave<'a, K: Naming, J: Series, S: Stable, R: Wait>(
     rt: &R,
@@ -63,7 +63,7 @@ fn leave<'a, K: Naming, J: Series, S: Stable, R: Wait>(
     }
 }
 
-// One turn of a worker.
+// Takes one turn of a worker.
 #[inline(never)]
 fn take_turn<'a, K: Naming, J: Series, S: Ledger, R: Wait + Clock>(
     rt: &R,
@@ -91,7 +91,8 @@ fn take_turn<'a, K: Naming, J: Series, S: Ledger, R: Wait + Clock>(
     }
 }
 
-// The turns of a worker until all are quiet: how its process ended, its outputs, and its store.
+// Takes the turns of a worker until all are quiet, and returns how its process ended, its outputs, and its
+// store.
 fn turns_until_over<'a, K: Naming, J: Series, S: Ledger, R: Wait + Clock>(
     rt: &R,
     alloc: Global,
@@ -136,7 +137,7 @@ fn turns_until_over<'a, K: Naming, J: Series, S: Ledger, R: Wait + Clock>(
     Err(RunFault::Turns(worker.pid()))
 }
 
-// The same, with the ends that the worker gives up then.
+// Takes the turns of a worker until all are quiet, and returns its ends too, which it gives up then.
 pub(crate) fn take_turns<'a, K: Naming, J: Series, S: Ledger, R: Wait + Clock>(
     rt: &R,
     alloc: Global,

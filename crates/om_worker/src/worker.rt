@@ -18,7 +18,7 @@ mod storing;
 use crate::links::{Links, Taken};
 use om_board::{Naming, Pass, Shared};
 use om_interval::Pid;
-use om_node::{Due, Kept, Node, WorkerFault, has_ended};
+use om_node::{Due, Kept, Node, WorkerFault};
 use om_observers::{Diary, Observers, Past, Sight, Watch};
 use om_process::{Accept, PendingRow, Status, Witness};
 use om_report::Harvest;
@@ -81,7 +81,7 @@ struct Handed {
 }
 
 impl Handed {
-    // Of a process at its start, whose checkpoint is stored.
+    // Makes what a process at its start has handed over: its checkpoint is stored.
     fn new() -> Handed {
         Handed {
             receipts: 0,
@@ -89,14 +89,14 @@ impl Handed {
         }
     }
 
-    // The process was rolled back to interval r.
+    // Notes that the process was rolled back to interval `r`.
     fn cut(&mut self, r: u32) {
         self.receipts = r;
         self.checkpoint = self.checkpoint.min(r);
     }
 }
 
-// The interval of the last checkpoint among these rows, 0 where there is none.
+// Returns the interval of the last checkpoint among these rows, 0 where there is none.
 fn last_checkpoint(rows: &[PendingRow]) -> u32 {
     let mut last = 0;
     for row in rows {
@@ -141,14 +141,14 @@ impl<'a, K: Naming> Worker<'a, K> {
         }
     }
 
-    // The process.
+    // Returns the process.
     pub(crate) fn pid(&self) -> Pid
         ensures { result ≡ self.now.links.own }
     {
         self.manager_link.pid
     }
 
-    // The number of processes.
+    // Returns the number of processes.
     pub(crate) fn n(&self) -> usize
         ensures { result ≡ K.cell.n }
     {
@@ -190,7 +190,8 @@ impl<'a, K: Naming> Worker<'a, K> {
         self.extra
     }
 
-    // The process came up in this round, which it tells last of all: who was the last wakes the others.
+    // Counts the process, which came up in this round, and wakes the others where it was the last. It is the last act of coming up,
+    // but where a store is taken up: there the manager is told of it afterwards.
     pub(crate) fn arrive(&mut self, round: u32)
         ensures { self.new.links ≡ self.old.links }
     {
@@ -223,7 +224,7 @@ impl<'a, K: Naming> Worker<'a, K> {
         (links.into_ends(), past.into_witness())
     }
 
-    // The outputs of the process, where as many are released as it made.
+    // Returns the outputs of the process, where as many are released as it made.
     pub(crate) fn harvest<R: Wait>(
         &self,
         rt: &R,
@@ -238,14 +239,14 @@ impl<'a, K: Naming> Worker<'a, K> {
         self.manager_link.harvest(rt, alloc, made)
     }
 
-    // The process has ended, with so many instructions.
+    // Notes that the process has ended, with so many instructions.
     pub(crate) fn end(&mut self, count: u64)
         ensures { self.new.links ≡ self.old.links }
     {
         self.past.end(count);
     }
 
-    // One turn. Nothing that moves the process is inlined, here and below: a process over a large store is moved a field at a
+    // Takes one turn. Nothing that moves the process is inlined, here and below: a process over a large store is moved a field at a
     // time where several moves stand in one function, which then takes the compiler minutes.
     #[inline(never)]
     fn turn<J: Series, S: Ledger, R: Wait + Clock>(
@@ -276,7 +277,7 @@ impl<'a, K: Naming> Worker<'a, K> {
         }
     }
 
-    // One turn, at whose end whoever watches sees what the process does.
+    // Takes one turn, at whose end whoever watches sees what the process does.
     #[inline(never)]
     pub(crate) fn shown_turn<J: Series, S: Ledger, R: Wait + Clock>(
         &mut self,
@@ -327,7 +328,7 @@ impl<'a, K: Naming> Worker<'a, K> {
         watch.show(rt, pid, sight);
     }
 
-    // A turn of a process that is up: it runs, where all are.
+    // Takes a turn of a process that is up: it runs, where all are.
     #[inline(never)]
     fn go_on<J: Series, S: Ledger, R: Wait + Clock>(
         &mut self,
@@ -357,7 +358,7 @@ impl<'a, K: Naming> Worker<'a, K> {
         }
     }
 
-    // A turn of a process that is up and goes on, or leaves: then its store is here.
+    // Takes a turn of a process that is up and goes on, or leaves: then its store is here.
     #[inline(never)]
     fn step<J: Series, S: Ledger, R: Wait + Clock>(
         &mut self,
@@ -403,7 +404,7 @@ impl<'a, K: Naming> Worker<'a, K> {
         let standing = self.report(rt, alloc, node, status, called)?;
         match standing {
             ManagerPhase::Closed => {
-                if !has_ended(status) {
+                if !status.has_ended() {
                     self.launch(rt, alloc, node)?;
                 }
                 self.receive(rt, alloc, node, status)
@@ -443,7 +444,7 @@ impl<'a, K: Naming> Worker<'a, K> {
         if ran.steps > 0 || self.links.is_behind() {
             self.links.put_all(rt, alloc, node.core())?;
         }
-        if has_ended(ran.status) {
+        if ran.status.has_ended() {
             self.recall(rt, node)?;
             node.flush(alloc)?;
             self.diary.stored_all();
@@ -473,7 +474,7 @@ impl<'a, K: Naming> Worker<'a, K> {
             → outputs_from node.old.core link.handed ≡ []
             → IfOk result (λ standing. HasNothingToSay link.handed status node.old.core standing node.new.core) }
     {
-        let ended = has_ended(status);
+        let ended = status.has_ended();
         if !self.manager_link.is_due(node.core(), ended, called) {
             return Ok(ManagerPhase::Closed);
         }
@@ -527,7 +528,7 @@ impl<'a, K: Naming> Worker<'a, K> {
         }
     }
 
-    // Something happens to the process: it is idle no longer, and what it keeps is not all resent.
+    // Notes that something happens to the process: it is idle no longer, and what it keeps is not all resent.
     fn change(&mut self)
         ensures same { self.new.links ≡ self.old.links }
     {

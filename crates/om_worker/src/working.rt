@@ -77,7 +77,7 @@ fn begin<'a, J: Series, R, O: Opener<R>>(
     }
 }
 
-// A process that the gate let start, and the intervals at which it is to fail.
+// Starts a process once the gate lets it, and returns it with the intervals at which it is to fail.
 fn admit<'a, K: Naming, J: Series, R: Wait, G: Gate, O: Opener<R>>(
     cluster: &Cluster<'a, K, R, G, O>,
     image: &'a Image,
@@ -239,7 +239,7 @@ pub fn work_or_stop<'a, K: Naming, J: Series, R: Wait + Clock, G: Gate, O: Opene
     result
 }
 
-// The intervals at which a process is to fail.
+// Returns the intervals at which a process is to fail.
 fn kills_of(alloc: Global, kills: &[(Pid, u32)], pid: Pid) -> Result<Vec<u32>, AllocError>
     ensures { IfOk result (λ own. own.items ≡ map (λ kill. kill.1) (filter (λ kill. kill.0 == pid) kills.now)) }
 {

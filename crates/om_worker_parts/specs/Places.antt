@@ -31,7 +31,7 @@ place_after steps.MustJoin node = MustJoin node
 place_after steps.Failed node = Failed node.member
 place_after steps.AllQuiet node = AllQuiet node
 
--- of one that steps elsewhere no flight is under way
+-- no flight of a process is under way that steps elsewhere than up
 abbrev pub IsLandedAt : TurnOutcome → NodeState → Type 0
 IsLandedAt steps.Up node = Unit {0}
 IsLandedAt steps.MustJoin node = node.away ≡ false

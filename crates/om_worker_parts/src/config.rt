@@ -1,3 +1,5 @@
+//! What a cluster runs, and how.
+
 use om_interval::Pid;
 use om_process::Image;
 

@@ -43,7 +43,7 @@ pub struct Idle {
 }
 
 impl Idle {
-    /// Makes that of a worker at its start.
+    /// Makes the idle times of a worker at its start.
     pub fn new() -> Idle
         ensures turns { result.turns ≡ 0 }
         ensures sleep { result.sleep ≡ FIRST_SLEEP }

@@ -11,7 +11,7 @@ use std::sync::Wait;
 /// Holds the board of a cluster while its lock is had, with the frontier that it posts to.
 #[derive(Drop)]
 pub struct LockedBoard<'a, K: Naming, R: Wait> {
-    /// What waits.
+    /// The host, by which calls wait.
     pub rt: &'a R,
     /// The board.
     pub board: &'a mut Board<K>,

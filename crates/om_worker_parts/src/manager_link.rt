@@ -78,7 +78,7 @@ fn have_receipt(rows: &[PendingRow]) -> bool {
 }
 
 impl<'a, K: Naming> ManagerLink<'a, K> {
-    /// Makes that of a process at its start.
+    /// Makes the link of a process at its start.
     pub fn new(pid: Pid, shared: &'a Shared<K>) -> ManagerLink<'a, K>
         requires { pid < K.cell.n }
         ensures { result.pid ≡ pid }
@@ -131,8 +131,8 @@ impl<'a, K: Naming> ManagerLink<'a, K> {
         ended || called || !core.pending().is_empty() || !core.outputs_from(self.handed).is_empty()
     }
 
-    // The board's lock. Where another has it, a worker that has the patience yields a few times before it sleeps for it: what is
-    // done under it takes some microseconds, and a lock that is left to one that sleeps is nobody's until that is awake.
+    // Takes the board's lock. Where another has it, a worker that has the patience yields a few times before it sleeps for it: what
+    // is done under it takes some microseconds, and a lock that is left to one that sleeps is nobody's until that is awake.
     fn lock<R: Wait>(&self, rt: &R, is_patient: bool) -> MutexGuard<'a, Board<K>> {
         if is_patient {
             for _ in 0..TRIES {

@@ -12,22 +12,22 @@ use std::alloc::{AllocError, Global};
 /// Holds the passes that one process has.
 #[derive(Drop)]
 pub struct Ends {
-    /// By receiver.
+    /// The passes to put, by receiver.
     pub puts: Vec<PutPass>,
-    /// By sender.
+    /// The passes to take, by sender.
     pub takes: Vec<TakePass>,
 }
 
 /// Holds an inbox from each process to each, and the passes of each process.
 #[derive(Drop)]
 pub struct Network {
-    /// By sender, and there by receiver.
+    /// The inboxes, by sender, and there by receiver.
     pub inboxes: Vec<Vec<Inbox>>,
     /// By process, its passes.
     pub ends: Vec<Ends>,
 }
 
-// As many places without any pass.
+// Makes `n` places without any pass.
 fn no_ends(alloc: Global, n: usize) -> Result<Vec<Ends>, AllocError>
     ensures { IfOk result (λ ends. all_taken ends.items ≡ replicate n []) }
 {
@@ -52,7 +52,7 @@ fn add_take(ends: &mut Vec<Ends>, to: usize, take: TakePass) -> Result<(), Alloc
     Ok(())
 }
 
-// The inboxes of one sender, and its passes to put. Each receiver gets one pass more to take.
+// Makes the inboxes of one sender, and its passes to put. Each receiver gets one pass more to take.
 fn connect(
     alloc: Global,
     from: usize,

@@ -1,3 +1,5 @@
+//! When a process may start, and how its store is made.
+
 ghost use Rattle.std.specs.Prelude.{◌≡◌, IfOk, IsTrue};
 ghost use Rattle.om_stable.specs.Content.{nothing};
 ghost use Rattle.om_node.specs.Stores.{AreNeverClean};

@@ -24,7 +24,7 @@ pub struct SpinPolicy {
 }
 
 impl SpinPolicy {
-    /// Makes that of a worker at its start.
+    /// Makes the policy of a worker at its start.
     pub fn new() -> SpinPolicy
         ensures rests { result.rests ≡ 0 }
         ensures next { result.next ≡ FEWEST_RESTS }

@@ -28,7 +28,7 @@ pub enum WorkerState<'a, J: Series, S: Stable> {
 }
 
 impl<'a, J: Series, S: Stable> WorkerState<'a, J, S> {
-    /// Returns what the process does there.
+    /// Returns what the process does in this state.
     pub fn doing(&self) -> Doing
         ensures { result ≡ doing_at self.now }
     {
@@ -83,7 +83,7 @@ pub enum TurnOutcome {
 }
 
 impl TurnOutcome {
-    /// Returns where the process stands then.
+    /// Returns where the process stands after such a turn.
     #[inline(never)]
     pub fn place_of<'a, J: Series, S: Stable>(self, node: Node<'a, J, S>) -> WorkerState<'a, J, S>
         requires landed { IsLandedAt self node }

@@ -159,7 +159,7 @@ between_now w h s none = record {
 }
 
 -- a round finishes
-pub between_finished : (w : WorldState) (presences : List Presence) (m : ManagerState) → AreDone w presences m → IsBetween (past_with (past_of w) w.live m) (cut_list (recovered w.manager) w.live) w.contents
+pub between_finished : (w : WorldState) (presences : List Presence) (m : ManagerState) → AreDone w presences m → IsBetween (past_with (past_of w) w.live m) (cut_list w.manager.recovery w.live) w.contents
 between_finished w presences m d =
     let h = d.shape in let s = d.sound in let size = h.size in
     let goes = goes_finished w presences m d in
@@ -168,7 +168,7 @@ between_finished w presences m d =
     (between_now w h s (λ p lt news. let same = d.known.round p (d.all p (omega arith)) in absurd (omega arith))) in
     record {
       legal = b.legal;
-      same = λ p. sym (ap (take (recovered m p)) (cut_first (recovered w.manager) w.live p) ∙ take_take (recovered m p) (recovered w.manager p) (received p w.live) (let le = as_much p in omega arith));
+      same = λ p. sym (ap (take (recovered m p)) (cut_first w.manager.recovery w.live p) ∙ take_take (recovered m p) (recovered w.manager p) (received p w.live) (let le = as_much p in omega arith));
       stored = b.stored;
       ends = b.ends;
     }

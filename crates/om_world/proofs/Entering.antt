@@ -119,21 +119,21 @@ join_not_stored w v p fault told up opened h is known = subst (λ r. Happened w 
   where
     by : (fault : StoreError) → HasCalled Log w p (Err fault) v → Happened w (Event.Join p) (answers.Refused (refusal_of_store fault)) v
     by store_errors.Present h = absurd (h.free known tt refl)
-    by store_errors.Fault h = (up, opened, h.counted refl, (store_refused Log w v p store_errors.Fault up h known).2)
-    by store_errors.Memory h = (up, opened, inl (store_refused Log w v p store_errors.Memory up h known).1)
+    by store_errors.Fault h = (up, (opened, (store_refused Log w v p store_errors.Fault up h known).1))
+    by store_errors.Memory h = (up, (opened, inl (store_refused Log w v p store_errors.Memory up h known).1))
 
 pub join_not_noted : (w mid v : WorldState) (p count : ℕ) (fault : RecordError) (told : Result Answer Refusal) → IsUp w p → w.manager.gathering ≢ None → HasCalled Log w p (Ok tt) mid → HasTold mid p count (Err fault) v → told ≡ Err (refusal_of_record fault) → IsKnown v
     → Happened w (Event.Join p) (answered told) v
 join_not_noted w mid v p count fault told up opened h t is known =
     let memory = t.memory (known_mid mid v p count (Err fault) t known) in
     let stopped = (some_noted Log w mid v p count (Refused notes.Memory) up h (subst (λ f. HasTold mid p count (Err f) v) memory t) known).1 in
-    subst (λ r. Happened w (Event.Join p) (answered r) v) (sym (is ∙ ap (λ f. Err (refusal_of_record f)) memory)) (up, opened, inl stopped)
+    subst (λ r. Happened w (Event.Join p) (answered r) v) (sym (is ∙ ap (λ f. Err (refusal_of_record f)) memory)) (up, (opened, inl stopped))
 
 pub join_not_handed : (w mid v z : WorldState) (p count : ℕ) (fault : OutputError) (told : Result Answer Refusal) → IsUp w p → w.manager.gathering ≢ None → HasCalled Log w p (Ok tt) mid → HasTold mid p count (Ok tt) v → HasHandedIn v p (Err fault) z
     → told ≡ Err (refusal_of_output fault) → IsKnown z → Happened w (Event.Join p) (answered told) z
 join_not_handed w mid v z p count fault told up opened h t k is known =
     let known_v = known_handed v z p (Err fault) k known in
-    subst (λ r. Happened w (Event.Join p) (answered r) z) (sym (is ∙ ap (λ f. Err (refusal_of_output f)) (k.memory known_v))) (up, opened, inr (h.core, handed_over w mid v z p count (Err fault) up h t k known_v))
+    subst (λ r. Happened w (Event.Join p) (answered r) z) (sym (is ∙ ap (λ f. Err (refusal_of_output f)) (k.memory known_v))) (up, (opened, inr (h.core, handed_over w mid v z p count (Err fault) up h t k known_v)))
 
 pub join_not_entered : (w mid v z u : WorldState) (p count : ℕ) (fault : JoinError) (told : Result Answer Refusal) → IsUp w p → w.manager.gathering ≢ None → HasCalled Log w p (Ok tt) mid → HasTold mid p count (Ok tt) v → HasHandedIn v p (Ok tt) z → HasEntered z p (Err fault) u
     → told ≡ Err (refusal_of_join fault) → IsKnown u → Happened w (Event.Join p) (answered told) u
@@ -143,7 +143,7 @@ join_not_entered w mid v z u p count fault told up opened h t k e is known =
     let over = handed_over w mid v z p count (Ok tt) up h t k known_v in
     let still : z.manager.gathering ≡ w.manager.gathering = ap (λ (m : ManagerState). m.gathering) over.handed.1 ∙ all_gathering w.manager over.told w.manager.round p (flushed h.core).pending over.noted in
     let memory = e.memory known_z (λ none. opened (sym still ∙ none)) in
-    subst (λ r. Happened w (Event.Join p) (answered r) u) (sym (is ∙ ap (λ f. Err (refusal_of_join f)) memory)) (up, opened, inr (h.core, subst (HasHanded w p h.core) (sym e.refused) over))
+    subst (λ r. Happened w (Event.Join p) (answered r) u) (sym (is ∙ ap (λ f. Err (refusal_of_join f)) memory)) (up, (opened, inr (h.core, subst (HasHanded w p h.core) (sym e.refused) over)))
 
 -- ---- what it leaves
 keeps_then : (a b c : WorldState) → Keeps a b → Keeps b c → Keeps a c

@@ -316,8 +316,8 @@ pub record AreDone (w : WorldState) (presences : List Presence) (m : ManagerStat
   pub done : Finishes presences w.manager m
 
 -- how many receipts of a process are left
-left_length : (w : WorldState) (q : ℕ) → HasShape w → Sound w → length (received q (cut_list (recovered w.manager) w.live)) ≡ recovered w.manager q
-left_length w q h s = ap length (cut_first (recovered w.manager) w.live q) ∙ take_long (recovered w.manager q) (history (past_of w) q) (recovery_within w h s q)
+left_length : (w : WorldState) (q : ℕ) → HasShape w → Sound w → length (received q (cut_list w.manager.recovery w.live)) ≡ recovered w.manager q
+left_length w q h s = ap length (cut_first w.manager.recovery w.live q) ∙ take_long (recovered w.manager q) (history (past_of w) q) (recovery_within w h s q)
 
 -- who is not named is not cut
 not_cut : (w : WorldState) (presences : List Presence) (m : ManagerState) (q : ℕ) → AreDone w presences m → q < length w.programs → is_named m.backs q ≡ false → length (history (past_of w) q) ≤ recovered w.manager q
@@ -335,8 +335,8 @@ not_cut w presences m q d lt none =
     low : (a b : ℕ) → nat_lt a b ≡ false → b ≤ a
     low a b e = grind (arith, nat_tests)
 
-not_cut_same : (w : WorldState) (presences : List Presence) (m : ManagerState) (q : ℕ) → AreDone w presences m → q < length w.programs → is_named m.backs q ≡ false → history (past_of w) q ≡ received q (cut_list (recovered w.manager) w.live)
-not_cut_same w presences m q d lt none = sym (cut_first (recovered w.manager) w.live q ∙ take_all (recovered w.manager q) (history (past_of w) q) (not_cut w presences m q d lt none))
+not_cut_same : (w : WorldState) (presences : List Presence) (m : ManagerState) (q : ℕ) → AreDone w presences m → q < length w.programs → is_named m.backs q ≡ false → history (past_of w) q ≡ received q (cut_list w.manager.recovery w.live)
+not_cut_same w presences m q d lt none = sym (cut_first w.manager.recovery w.live q ∙ take_all (recovered w.manager q) (history (past_of w) q) (not_cut w presences m q d lt none))
 
 -- nobody is up
 none_up : (w : WorldState) (presences : List Presence) (m : ManagerState) (q : ℕ) → AreDone w presences m → slice_get w.places q ≡ Some ProcessState.Up → ⊥
@@ -360,14 +360,14 @@ not_named w presences m q d lt runs = elim runs [
   | inr stays ↦ let same = round_of w presences m q d lt in let next = d.done.round in stays.1 (omega arith)
 ]
 
-pub goes_finished : (w : WorldState) (presences : List Presence) (m : ManagerState) → AreDone w presences m → Goes (past_of w) (cut_list (recovered w.manager) w.live) m
+pub goes_finished : (w : WorldState) (presences : List Presence) (m : ManagerState) → AreDone w presences m → Goes (past_of w) (cut_list w.manager.recovery w.live) m
 goes_finished w presences m d =
     let f = d.done in
     let R = recovered w.manager in
     record {
       counts = λ p q.
-          let same : take (recovered m q) (received q (cut_list R w.live)) ≡ take (R q) (history (past_of w) q) =
-          ap (λ state. take (slice_index state q) (received q (cut_list R w.live))) f.recovery ∙ ap (take (R q)) (cut_first R w.live q) ∙ take_take (R q) (R q) (history (past_of w) q) (omega arith) in
+          let same : take (recovered m q) (received q (cut_list w.manager.recovery w.live)) ≡ take (R q) (history (past_of w) q) =
+          ap (λ state. take (slice_index state q) (received q (cut_list w.manager.recovery w.live))) f.recovery ∙ ap (take (R q)) (cut_first w.manager.recovery w.live q) ∙ take_take (R q) (R q) (history (past_of w) q) (omega arith) in
           subst (λ l. count_from p (take (R q) (history (past_of w) q)) ≤ count_from p l) (sym same) (omega arith);
       released = released_all w.manager m d.shape.manager (finishes_keeps presences w.manager m f);
       old = λ p kind x o. record {
@@ -379,7 +379,7 @@ goes_finished w presences m d =
     }
 
 -- a frame that was no orphan and is none was sent within the recovery state
-frame_done : (w : WorldState) (presences : List Presence) (m : ManagerState) (f : Message) → AreDone w presences m → IsFrame (past_of w) f → IsFrame (past_with (past_of w) (cut_list (recovered w.manager) w.live) m) f
+frame_done : (w : WorldState) (presences : List Presence) (m : ManagerState) (f : Message) → AreDone w presences m → IsFrame (past_of w) f → IsFrame (past_with (past_of w) (cut_list w.manager.recovery w.live) m) f
 frame_done w presences m f d o =
     let n = length w.programs in
     let q = f.from in
@@ -391,7 +391,7 @@ frame_done w presences m f d o =
       known = grown (is_named m.backs q) refl;
       said = elim (frames_cut m.backs w.manager.recovery w.manager.starts m.starts q f.tag.inc f.tag.interval (history (past_of w) q) P d.done.begin at (begun.lawful q here).some o.known (λ i lt. begun.within q i here lt) (λ none. not_cut w presences m q d o.from none) o.said) [
         | inl cut ↦ inl cut
-        | inr said ↦ inr (subst (λ h. AtInterval h f.tag.interval P) (sym (cut_first (recovered w.manager) w.live q)) said)
+        | inr said ↦ inr (subst (λ h. AtInterval h f.tag.interval P) (sym (cut_first w.manager.recovery w.live q)) said)
       ];
     }
   where
@@ -415,11 +415,11 @@ sound_finished w presences m d =
     let v = past_of w in
     let n = length w.programs in
     let R = recovered w.manager in
-    let live = cut_list R w.live in
+    let live = cut_list w.manager.recovery w.live in
     let g = goes_finished w presences m d in
     let closed = f.closed in
     record {
-      legal = cut w.programs R w.live s.legal (closed_legal w.programs R w.live s.legal (λ p q other. state_closed w p q h s other));
+      legal = cut w.programs w.manager.recovery w.live s.legal (closed_legal w.programs w.manager.recovery w.live s.legal (λ p q other. state_closed w p q h s other));
       frames = λ i x at. frame_done w presences m x d (s.frames i x at);
       outputs = λ p i o at.
           let size = h.size in let many = f.places in let old = h.manager.places in
@@ -427,11 +427,11 @@ sound_finished w presences m d =
           let here : slice_get (released_by w.manager p) i ≡ Some o = ap (λ l. slice_get l i) (sym (f.outputs p (omega arith))) ∙ at in
           let front = h.manager.released p (omega arith) in
           let was : slice_get (held_by w.manager p) i ≡ Some o = ap (λ l. slice_get l i) (sym front.1) ∙ front_at (released_by w.manager p) front.0 i o here in
-          at_first (history v p) (received p live) o.interval (R p) (Makes (program_at w.programs p) p n n i (output_entry o)) (cut_first R w.live p) (within_at (held_by w.manager p) (R p) i o here) (s.outputs p i o was);
+          at_first (history v p) (received p live) o.interval (R p) (Makes (program_at w.programs p) p n n i (output_entry o)) (cut_first w.manager.recovery w.live p) (within_at (held_by w.manager p) (R p) i o here) (s.outputs p i o was);
       rows = λ row has.
           let old = of_cut w.manager.rows w.manager.recovery row (subst (λ rows. HasRow rows row) f.rows has) in
-          at_first (history v row.pid) (received row.pid live) row.interval (R row.pid) (RowOf row.pid n row.vec row.got) (cut_first R w.live row.pid) old.1 (s.rows row old.0);
-      stored = λ p held at. stored_on v live m p (R p) held g (cut_first R w.live p) (s.stored p held at);
+          at_first (history v row.pid) (received row.pid live) row.interval (R row.pid) (RowOf row.pid n row.vec row.got) (cut_first w.manager.recovery w.live row.pid) old.1 (s.rows row old.0);
+      stored = λ p held at. stored_on v live m p (R p) held g (cut_first w.manager.recovery w.live p) (s.stored p held at);
       backed = λ row held has at.
           let old = of_cut w.manager.rows w.manager.recovery row (subst (λ rows. HasRow rows row) f.rows has) in
           elim (s.backed row held old.0 at) [ inl there ↦ inl there | inr is ↦ inr (g.old row.pid row.kind row.interval is) ];

@@ -78,7 +78,7 @@ not_given w p f m accepts.Full cs up frame nt nm o = (m, o.core, record { up = u
 
 -- memory is refused
 pub no_room : (w v : WorldState) (p f : ℕ) (m : Message) (r : Result Answer Refusal) → IsUp w p → HasShape w → slice_get w.frames f ≡ Some m → r ≡ Err refusals.Memory → v ≡ w → Happened w (Event.Give p f) (answered r) v
-no_room w v p f m r up h frame is same = let c = h.there p up in subst (λ a. Happened w (Event.Give p f) (answered a) v) (sym is) (m, c.0, record { up = up; frame = frame; core = c.1 }, same)
+no_room w v p f m r up h frame is same = let c = h.there p up in subst (λ a. Happened w (Event.Give p f) (answered a) v) (sym is) (up, (m, c.0, record { up = up; frame = frame; core = c.1 }, same))
 
 -- ---- it is not taken
 pub none_taken : (cs new : List (Option CoreState)) (p : ℕ) (m : Message) (a : Accept) → ((x : ℕ) → a ≢ accepts.Taken x) → IsOfferedAt cs p m a new → new ≡ cs

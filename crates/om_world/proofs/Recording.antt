@@ -48,15 +48,15 @@ is_same kind w v p fault h all =
 
 pub store_refused : (kind : Batch) (w v : WorldState) (p : ℕ) (fault : StoreError) → IsUp w p → HasCalled kind w p (Err fault) v → IsKnown v → Happened w (event_of kind p) (answers.Refused (refusal_of_store fault)) v
 store_refused Log w v p store_errors.Present up h all = absurd (h.free all tt refl)
-store_refused Log w v p store_errors.Fault up h all = (up, h.counted refl, is_same Log w v p store_errors.Fault h all)
+store_refused Log w v p store_errors.Fault up h all = (up, (h.counted refl, is_same Log w v p store_errors.Fault h all))
 store_refused Log w v p store_errors.Memory up h all = (up, inl (is_same Log w v p store_errors.Memory h all))
 store_refused (First k) w v p store_errors.Present up h all = absurd (h.free all tt refl)
-store_refused (First k) w v p store_errors.Fault up h all = (up, h.counted refl, is_same (First k) w v p store_errors.Fault h all)
+store_refused (First k) w v p store_errors.Fault up h all = (up, (h.counted refl, is_same (First k) w v p store_errors.Fault h all))
 store_refused (First k) w v p store_errors.Memory up h all = (up, inl (is_same (First k) w v p store_errors.Memory h all))
 store_refused Checkpoint w v p store_errors.Present up h all =
     let d = h.did all in
-    (up, record { core = h.core; is_core = h.there; held = d.0; is_held = d.2; there = d.4.1 refl }, is_same Checkpoint w v p store_errors.Present h all)
-store_refused Checkpoint w v p store_errors.Fault up h all = (up, h.counted refl, is_same Checkpoint w v p store_errors.Fault h all)
+    (up, (record { core = h.core; is_core = h.there; held = d.0; is_held = d.2; there = d.4.1 refl }, is_same Checkpoint w v p store_errors.Present h all))
+store_refused Checkpoint w v p store_errors.Fault up h all = (up, (h.counted refl, is_same Checkpoint w v p store_errors.Fault h all))
 store_refused Checkpoint w v p store_errors.Memory up h all = (up, inl (is_same Checkpoint w v p store_errors.Memory h all))
 
 -- a fault is that of a store which counts it

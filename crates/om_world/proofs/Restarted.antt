@@ -67,15 +67,15 @@ sound_anew w run m h s whole known a =
     let v = along w run in
     let before = a.failed.before in
     let same = ap process_count a.failed.others in
-    subst (λ r. Sound (record (anew v m) { live = cut_list (slice_index r) run })) (sym a.failed.finished.recovery)
+    subst (λ r. Sound (record (anew v m) { live = cut_list r run })) (sym a.failed.finished.recovery)
     (sound_started v before m a.failed.presences (shape_along w run h) s (starts w run m known whole a) (subst (λ n. OnlyFailed n a.failed.presences) a.first.size a.failed.failed) (subst (λ n. AreAllIn n a.failed.presences) (sym same) a.failed.all) a.failed.finished)
 
-between_anew : (w : WorldState) (run : List Entry) (m : ManagerState) → HasShape w → CanRestart (along w run) → IsWhole w → IsKnown w → IsAnew w m → IsBetween (before_of (anew (along w run) m)) (cut_list (recovered m) run) w.contents
+between_anew : (w : WorldState) (run : List Entry) (m : ManagerState) → HasShape w → CanRestart (along w run) → IsWhole w → IsKnown w → IsAnew w m → IsBetween (before_of (anew (along w run) m)) (cut_list m.recovery run) w.contents
 between_anew w run m h s whole known a =
     let v = along w run in
     let before = a.failed.before in
     let same = ap process_count a.failed.others in
-    subst (λ r. IsBetween (before_of (anew v m)) (cut_list (slice_index r) run) w.contents) (sym a.failed.finished.recovery)
+    subst (λ r. IsBetween (before_of (anew v m)) (cut_list r run) w.contents) (sym a.failed.finished.recovery)
     (between_started v before m a.failed.presences (shape_along w run h) s (starts w run m known whole a) (subst (λ n. OnlyFailed n a.failed.presences) a.first.size a.failed.failed) (subst (λ n. AreAllIn n a.failed.presences) (sym same) a.failed.all) a.failed.finished)
 
 shape_anew : (w : WorldState) (run : List Entry) (m : ManagerState) → HasShape w → IsAnew w m → HasShape (anew (along w run) m)
@@ -92,7 +92,7 @@ world_anew IsSound xs Other ys w run m goes i left a = record {
 
 -- ---- its members
 module _ {S : Type 0} (content : S → Content) (health : S → Health) (IsSound : S → Type 0) (P : List Program) (L : List Entry) (F : List Message) (ms : List (Member S)) (M : ManagerState) (O : Besides) (v : WorldState)
-    (i : IsWorld (sound_in IsSound) ms (seen content health P L F ms M O)) (e : seen content health P L F ms M O ≡ v) (run : List Entry) (m : ManagerState) (live : List Entry) (cut : live ≡ cut_list (recovered m) run) (since : SinceState) (begun : since ≡ record { before = run; stored = false }) (fs : List Message) (none : fs ≡ []) (now : List (Member S)) (down : now ≡ map downed ms) where
+    (i : IsWorld (sound_in IsSound) ms (seen content health P L F ms M O)) (e : seen content health P L F ms M O ≡ v) (run : List Entry) (m : ManagerState) (live : List Entry) (cut : live ≡ cut_list m.recovery run) (since : SinceState) (begun : since ≡ record { before = run; stored = false }) (fs : List Message) (none : fs ≡ []) (now : List (Member S)) (down : now ≡ map downed ms) where
   all_sound : (xs : List (Member S)) → AllByRecursion (sound_in IsSound) xs → AllByRecursion (sound_in IsSound) (map downed xs)
   all_sound [] all = all
   all_sound (x ∷ xs) all = (all.0, all_sound xs all.1)

@@ -230,5 +230,5 @@ pub sound_started : (w : WorldState) (m new : ManagerState) (presences : List Pr
 sound_started w m new presences h s k only all done = sound_finished (put_down w m) presences new (done_started w m new presences h s k only all done)
 
 pub between_started : (w : WorldState) (m new : ManagerState) (presences : List Presence) → HasShape w → CanRestart w → Starts w m → OnlyFailed (length w.programs) presences → AreAllIn (process_count m) presences → Finishes presences m new
-    → IsBetween (past_with (past_of w) w.live new) (cut_list (recovered m) w.live) w.contents
+    → IsBetween (past_with (past_of w) w.live new) (cut_list m.recovery w.live) w.contents
 between_started w m new presences h s k only all done = between_finished (put_down w m) presences new (done_started w m new presences h s k only all done)

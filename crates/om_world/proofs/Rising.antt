@@ -49,7 +49,7 @@ use Rattle.om_world.proofs.TakenDown.{after_down}
 -- ---- a cut by the manager after a round, and by the one before it
 live_gathers : (told : Gathered) (presences : List Presence) (old new : ManagerState) (live : List Entry) → Gathers presences old told new → live_after told new live ≡ live_after told old live
 live_gathers Waiting presences old new live g = refl
-live_gathers Finished presences old new live g = ap (λ (r : List ℕ). cut_list (λ q. slice_index r q) live) g.1.recovery
+live_gathers Finished presences old new live g = ap (λ (r : List ℕ). cut_list r live) g.1.recovery
 
 live_fails : (told : Gathered) (old : ManagerState) (q : ℕ) (new : ManagerState) (live : List Entry) → Fails old q told new → live_after told new live ≡ live_after told old live
 live_fails told old q new live f = elim f [

@@ -1,5 +1,5 @@
 -- What a run does, by its calls.
-use Rattle.std.proofs.Common.{◌≡◌, inr, ℕ, ◌-◌, ◌≤◌, List, ◌++◌, length, Option, Some, Result, Ok, Err, sym, ap, ◌∙◌, subst, arith}
+use Rattle.std.proofs.Common.{◌≡◌, inr, ℕ, ◌-◌, ◌≤◌, List, ◌++◌, length, Option, Some, Result, Ok, Err, refl, sym, ap, ◌∙◌, subst, arith}
 use Rattle.std.specs.Prelude.{slice_get, slice_index}
 use Rattle.om_process.specs.declared.turns.Ran.{Ran}
 use Rattle.om_process.specs.Core.{CoreState, cluster_size, RunsTo}
@@ -136,17 +136,23 @@ pub hand_stopped : (w v u z : WorldState) (p fuel sent : ℕ) (few : List ℕ) (
 hand_stopped w v u z p fuel sent few fault up k t s h known =
     let new = sent_new w v u p fuel sent few k t s in
     let e : u ≡ record v { frames = u.frames } = new.1 ∙ ap (λ l. record v { frames = l }) (sym (ap (λ (x : WorldState). x.frames) new.1)) in
-    subst (λ f. Happened w (Event.Run p fuel) (answers.Refused (refusal_of_output f)) z) (sym (h.memory (subst IsKnown h.others known))) (record {
-      before = t.0.before;
-      after = t.0.after;
-      changes = changes_by w v u z p fuel up t e h.others;
-      turns = t.0.turns;
-      rest = t.0.rest;
-      frames = inr (ap (λ (x : WorldState). x.frames) h.others ∙ ap (λ (x : WorldState). x.frames) new.1);
-      manager = subst (λ m. HoldsMore m p z.manager) (same_manager w v u p fuel t e) h.more;
-      contents = same_contents w v u z p fuel t e h.others;
-      since = same_since w v u z p fuel t e h.others;
-    })
+    subst (λ f. Happened w (Event.Run p fuel) (answers.Refused (refusal_of_output f)) z) (sym (h.memory (subst IsKnown h.others known))) (
+      up,
+      (
+        refl,
+        record {
+          before = t.0.before;
+          after = t.0.after;
+          changes = changes_by w v u z p fuel up t e h.others;
+          turns = t.0.turns;
+          rest = t.0.rest;
+          frames = inr (ap (λ (x : WorldState). x.frames) h.others ∙ ap (λ (x : WorldState). x.frames) new.1);
+          manager = subst (λ m. HoldsMore m p z.manager) (same_manager w v u p fuel t e) h.more;
+          contents = same_contents w v u z p fuel t e h.others;
+          since = same_since w v u z p fuel t e h.others;
+        },
+      ),
+    )
 
 pub hand_keeps : (w v u z : WorldState) (p fuel sent : ℕ) (few : List ℕ) (end : Result (Unit {0}) OutputError) → HasWent w p fuel v → HasSent v p few sent u → HasHandedIn u p end z → Keeps w z
 hand_keeps w v u z p fuel sent few end t s h = keeps_by w v u z p fuel t (s.3 ∙ ap (λ l. record v { frames = l }) (sym (ap (λ (x : WorldState). x.frames) s.3))) h.others (ap process_count h.more.1) h.released

@@ -38,7 +38,7 @@ put_up w p core = record w {
 -- what was received, once the manager has taken a failure or a join: a finished round cuts it to the recovery state
 abbrev pub live_after : Gathered → ManagerState → List Entry → List Entry
 live_after Waiting m live = live
-live_after Finished m live = cut_list (recovered m) live
+live_after Finished m live = cut_list m.recovery live
 
 -- a finished round begins anew what is kept of it
 abbrev pub since_after : Gathered → List Entry → SinceState → SinceState

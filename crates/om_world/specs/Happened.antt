@@ -1,5 +1,5 @@
 -- What each event does to a world, by its answer.
-use Rattle.std.specs.Prelude.{◌≡◌, ◌≢◌, ◌⊎◌, ℕ, ◌+◌, ◌<◌, ◌≤◌, List, [], ◌∷◌, ◌++◌, length, slice_get, slice_set, IfSome, IsSome, Some, None, true, false}
+use Rattle.std.specs.Prelude.{◌≡◌, ◌≢◌, ◌⊎◌, ℕ, ◌+◌, ◌<◌, ◌≤◌, List, [], ◌∷◌, ◌++◌, length, slice_get, slice_set, IsSome, Some, None, true, false}
 use Rattle.std.specs.FinMap.{get}
 use Rattle.om_format.specs.declared.message.Message.{Message}
 use Rattle.om_stable.specs.Content.{Content, kept_by_prune}
@@ -24,7 +24,6 @@ use Rattle.om_world.specs.declared.event.Refusal.{Refusal}
 use Rattle.om_world.specs.declared.process_state.ProcessState.{ProcessState}
 use Rattle.om_world.specs.declared.event.Refusal.TheVariants as refusals
 use Rattle.om_world.specs.World.{WorldState, recovered, entry_of}
-use Rattle.om_world.specs.Events.{process_of}
 use Rattle.om_world.specs.Restarted.{HasRestarted}
 use Rattle.om_world.specs.Failures.{BackHappened, BackStopped, FailRefused, HasGoneOn, HasHanded, HasNews, IsDeclared, IsToDeclare, IsToGoOn, JoinHappened, gathered, taken_down}
 use Rattle.om_world.specs.Changes.{HasFailed, IsSame, IsUp, Changes, new_messages, all_messages, made_by, HoldsMore, stored, HasStored, HasNoted, StoreStopped}
@@ -119,51 +118,88 @@ pub record Prunes (Did : ℕ → Content → Content → Type 0) (old new : Worl
 abbrev pub PruneStopped : WorldState → WorldState → Type 0
 PruneStopped old new = Prunes (λ p before after. (after ≡ before) ⊎ StorePruned new p before after) old new
 
--- ---- all events
--- why an event is refused, and what it leaves. A fault is that of a store which counts it. Where all stores are clean, no event is
--- told that something is damaged
-abbrev pub Refused : WorldState → Event → Refusal → WorldState → Type 0
-Refused old Event.Prune refusals.Memory new = PruneStopped old new
-Refused old Event.Prune refusals.Fault new = ((p : ℕ) × HasFailed old p new) × PruneStopped old new
-Refused old Event.Prune why new = ⊥
--- a restart leaves all but how the stores stand. It is unsettled where a process is not back from the last finished round, and another
--- may have stored since
-Refused old Event.Restart refusals.Unsettled new =
-    ((p : ℕ) × (p < length old.programs) × HasNews old p) × (new ≡ old) × (old.since.stored ≡ true)
-Refused old Event.Restart refusals.Fault new = ((p : ℕ) × HasFailed old p new) × IsSame old new
-Refused old Event.Restart refusals.Memory new = IsSame old new
-Refused old Event.Restart why new = ⊥
-Refused old event refusals.NoProcess new = IfSome (process_of event) (λ p. (length old.programs ≤ p) × (new ≡ old))
-Refused old (Event.Fail p) refusals.NotUp new = IsDeclared old p × (new ≡ old)
-Refused old (Event.Resume p) refusals.NotUp new = ⊥
-Refused old event refusals.NotUp new =
-    IfSome (process_of event) (λ p. (p < length old.programs) × (IsUp old p → ⊥) × (new ≡ old))
-Refused old (Event.Run p fuel) refusals.Memory new = RunStopped old p fuel new
-Refused old (Event.Give p f) refusals.NoFrame new = IsUp old p × (length old.frames ≤ f) × (new ≡ old)
-Refused old (Event.Give p f) refusals.Memory new = (m : Message) × (c : CoreState) × IsOffer old p f m c × (new ≡ old)
-Refused old (Event.Flush p) refusals.Memory new = IsUp old p × StoreStopped Log old p new
-Refused old (Event.Flush p) refusals.Fault new = IsUp old p × HasFailed old p new × IsSame old new
-Refused old (Event.FlushFirst p k) refusals.Memory new = IsUp old p × StoreStopped (First k) old p new
-Refused old (Event.FlushFirst p k) refusals.Fault new = IsUp old p × HasFailed old p new × IsSame old new
-Refused old (Event.Checkpoint p) refusals.Memory new = IsUp old p × StoreStopped Checkpoint old p new
-Refused old (Event.Checkpoint p) refusals.Fault new = IsUp old p × HasFailed old p new × IsSame old new
-Refused old (Event.Checkpoint p) refusals.Present new = IsUp old p × HasCheckpoint old p × IsSame old new
-Refused old (Event.Spell p) refusals.Memory new = IsUp old p × IsSame old new
-Refused old (Event.Spell p) refusals.Fault new = IsUp old p × HasFailed old p new × IsSame old new
-Refused old (Event.Spell p) refusals.Present new = IsUp old p × HasCheckpoint old p × IsSame old new
-Refused old (Event.Resend p) refusals.Memory new = IsUp old p × (new ≡ old)
-Refused old (Event.Fail p) refusals.Spent new = FailRefused (IsSpent old.manager) old p new
-Refused old (Event.Fail p) refusals.Memory new =
-    FailRefused (AreAllIn (process_count old.manager) (with_presence old.manager p presences.Failed)) old p new
-Refused old (Event.Join p) refusals.NoRound new = IsUp old p × (old.manager.gathering ≡ None) × (new ≡ old)
-Refused old (Event.Join p) refusals.Memory new = IsUp old p × (old.manager.gathering ≢ None)
-    × (StoreStopped Log old p new ⊎ ((core : CoreState) × HasHanded old p core new))
-Refused old (Event.Join p) refusals.Fault new = IsUp old p × (old.manager.gathering ≢ None) × HasFailed old p new × IsSame old new
-Refused old (Event.Resume p) refusals.NotIn new = (p < length old.programs) × (HasNews old p → ⊥) × (new ≡ old)
-Refused old (Event.Resume p) refusals.Memory new = BackStopped old p new ⊎ (IsToGoOn old p × (new ≡ old))
-Refused old (Event.Resume p) refusals.Fault new = HasFailed old p new × BackStopped old p new
-Refused old event why new = ⊥
+-- ---- why an event is refused, and what it leaves
+-- Each of these says it of one event, or of a few that are alike. A fault is that of a store which counts it. Where all stores are clean,
+-- no event is told that something is damaged.
 
+-- an event of a process that has to be up: there is none, or it is not up, and all stays; or it is up, and there is another reason
+abbrev pub UnlessUp : WorldState → ℕ → Refusal → WorldState → Type 0 → Type 0
+UnlessUp old p refusals.NoProcess new Else = (length old.programs ≤ p) × (new ≡ old)
+UnlessUp old p refusals.NotUp new Else = (p < length old.programs) × (IsUp old p → ⊥) × (new ≡ old)
+UnlessUp old p why new Else = IsUp old p × Else
+
+-- a store keeps no record: memory ran out, which leaves as much as is said; or it failed; or it has that checkpoint
+abbrev pub StoreRefused : Batch → WorldState → ℕ → Refusal → WorldState → Type 0 → Type 0
+StoreRefused kind old p refusals.Memory new Left = Left
+StoreRefused kind old p refusals.Fault new Left = HasFailed old p new × IsSame old new
+StoreRefused Checkpoint old p refusals.Present new Left = HasCheckpoint old p × IsSame old new
+StoreRefused kind old p why new Left = ⊥
+
+-- a process that is up stores no record of a kind
+abbrev pub RecordRefused : Batch → WorldState → ℕ → Refusal → WorldState → Type 0
+RecordRefused kind old p why new = UnlessUp old p why new (StoreRefused kind old p why new (StoreStopped kind old p new))
+
+-- a frame is not offered
+abbrev pub GiveRefused : WorldState → ℕ → ℕ → Refusal → WorldState → Type 0
+GiveRefused old p f refusals.NoFrame new = (length old.frames ≤ f) × (new ≡ old)
+GiveRefused old p f refusals.Memory new = (m : Message) × (c : CoreState) × IsOffer old p f m c × (new ≡ old)
+GiveRefused old p f why new = ⊥
+
+-- a process that is up does not join
+abbrev pub JoinRefused : WorldState → ℕ → Refusal → WorldState → Type 0
+JoinRefused old p refusals.NoRound new = (old.manager.gathering ≡ None) × (new ≡ old)
+JoinRefused old p why new =
+    (old.manager.gathering ≢ None)
+    × StoreRefused Log old p why new (StoreStopped Log old p new ⊎ ((core : CoreState) × HasHanded old p core new))
+
+-- a failure is not declared: it was before, or the manager refused it, and the process is down
+abbrev pub DeclareRefused : WorldState → ℕ → Refusal → WorldState → Type 0
+DeclareRefused old p refusals.NoProcess new = (length old.programs ≤ p) × (new ≡ old)
+DeclareRefused old p refusals.NotUp new = IsDeclared old p × (new ≡ old)
+DeclareRefused old p refusals.Spent new = FailRefused (IsSpent old.manager) old p new
+DeclareRefused old p refusals.Memory new =
+    FailRefused (AreAllIn (process_count old.manager) (with_presence old.manager p presences.Failed)) old p new
+DeclareRefused old p why new = ⊥
+
+-- a process does not come back
+abbrev pub ResumeRefused : WorldState → ℕ → Refusal → WorldState → Type 0
+ResumeRefused old p refusals.NoProcess new = (length old.programs ≤ p) × (new ≡ old)
+ResumeRefused old p refusals.NotIn new = (p < length old.programs) × (HasNews old p → ⊥) × (new ≡ old)
+ResumeRefused old p refusals.Memory new = BackStopped old p new ⊎ (IsToGoOn old p × (new ≡ old))
+ResumeRefused old p refusals.Fault new = HasFailed old p new × BackStopped old p new
+ResumeRefused old p why new = ⊥
+
+-- not all stores are pruned
+abbrev pub PruneRefused : WorldState → Refusal → WorldState → Type 0
+PruneRefused old refusals.Memory new = PruneStopped old new
+PruneRefused old refusals.Fault new = ((p : ℕ) × HasFailed old p new) × PruneStopped old new
+PruneRefused old why new = ⊥
+
+-- the whole does not start anew, and all stays but how the stores stand. It is unsettled where a process is not back from the last
+-- finished round, and another may have stored since
+abbrev pub RestartRefused : WorldState → Refusal → WorldState → Type 0
+RestartRefused old refusals.Unsettled new =
+    ((p : ℕ) × (p < length old.programs) × HasNews old p) × (new ≡ old) × (old.since.stored ≡ true)
+RestartRefused old refusals.Fault new = ((p : ℕ) × HasFailed old p new) × IsSame old new
+RestartRefused old refusals.Memory new = IsSame old new
+RestartRefused old why new = ⊥
+
+abbrev pub Refused : WorldState → Event → Refusal → WorldState → Type 0
+Refused old (Event.Run p fuel) why new = UnlessUp old p why new ((why ≡ refusals.Memory) × RunStopped old p fuel new)
+Refused old (Event.Give p f) why new = UnlessUp old p why new (GiveRefused old p f why new)
+Refused old (Event.Flush p) why new = RecordRefused Log old p why new
+Refused old (Event.FlushFirst p k) why new = RecordRefused (First k) old p why new
+Refused old (Event.Checkpoint p) why new = RecordRefused Checkpoint old p why new
+Refused old (Event.Spell p) why new = UnlessUp old p why new (StoreRefused Checkpoint old p why new (IsSame old new))
+Refused old (Event.Resend p) why new = UnlessUp old p why new ((why ≡ refusals.Memory) × (new ≡ old))
+Refused old (Event.Trim p) why new = UnlessUp old p why new ⊥
+Refused old (Event.Fail p) why new = DeclareRefused old p why new
+Refused old (Event.Join p) why new = UnlessUp old p why new (JoinRefused old p why new)
+Refused old (Event.Resume p) why new = ResumeRefused old p why new
+Refused old Event.Prune why new = PruneRefused old why new
+Refused old Event.Restart why new = RestartRefused old why new
+
+-- ---- all events
 -- What an event does, by its answer. A process goes down and nothing is declared where it was in, and the gathering that it joined had finished
 abbrev pub Happened : WorldState → Event → Answer → WorldState → Type 0
 Happened old event (answers.Refused why) new = Refused old event why new

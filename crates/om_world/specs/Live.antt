@@ -1,5 +1,5 @@
 -- Lists of receipts that a cluster without failures could have, and what a cut leaves of one.
-use Rattle.std.specs.Prelude.{◌≡◌, ◌≤◌, ◌<◌, List, [], ◌∷◌, ◌++◌, ℕ, Some, length, nat_lt, nat_eq, if◌then◌else◌, slice_get, slice_index_or}
+use Rattle.std.specs.Prelude.{◌≡◌, ◌-◌, ◌≤◌, ◌<◌, List, [], ◌∷◌, ◌++◌, ℕ, Some, length, nat_lt, nat_eq, if◌then◌else◌, slice_get, slice_index, slice_index_or, slice_set}
 use Rattle.om_isa.specs.declared.ext.Ext.TheVariants.{I}
 use Rattle.om_process.specs.Process.{Program, Received}
 use Rattle.om_process.specs.Dependencies.{count_from}
@@ -33,17 +33,14 @@ pub record MayFollow (programs : List Program) (before : List Entry) (e : Entry)
 abbrev pub Legal : List Program → List Entry → Type 0
 Legal programs es = (before after : List Entry) (e : Entry) → es ≡ before ++ e ∷ after → MayFollow programs before e
 
--- of the entries that come after those, the ones that are among the first of their receiver
-abbrev pub cut_after : (ℕ → ℕ) → List Entry → List Entry → List Entry
-cut_after s before [] = []
-cut_after s before (e ∷ es) =
-    if nat_lt (length (received e.to before)) (s e.to) then e ∷ cut_after s (before ++ e ∷ []) es
-    else cut_after s (before ++ e ∷ []) es
-
--- of each process its first entries, as many as the state says, in order
-abbrev pub cut_list : (ℕ → ℕ) → List Entry → List Entry
-cut_list s es = cut_after s [] es
+-- of each process its first entries, as many as the list says, in order
+abbrev pub cut_list : List ℕ → List Entry → List Entry
+cut_list left [] = []
+cut_list left (e ∷ es) =
+    if nat_lt 0 (slice_index left e.to) then e ∷ cut_list (slice_set left e.to (slice_index left e.to - 1)) es
+    else cut_list left es
 
 -- no receipt of an interval within the state is from an interval outside it
-abbrev pub Closed : (ℕ → ℕ) → List Entry → Type 0
-Closed s es = (p x : ℕ) (r : Received) → x < s p → slice_get (received p es) x ≡ Some r → r.interval ≤ s r.from
+abbrev pub Closed : List ℕ → List Entry → Type 0
+Closed state es =
+    (p x : ℕ) (r : Received) → x < slice_index state p → slice_get (received p es) x ≡ Some r → r.interval ≤ slice_index state r.from

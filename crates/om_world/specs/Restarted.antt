@@ -8,7 +8,7 @@ use Rattle.om_world.specs.Disk.{held_in}
 use Rattle.om_world.specs.Live.{cut_list}
 use Rattle.om_world.specs.Stopped.{IsLeft, along}
 use Rattle.om_world.specs.StoreRows.{HasRowsOf}
-use Rattle.om_world.specs.World.{WorldState, recovered}
+use Rattle.om_world.specs.World.{WorldState}
 use Rattle.om_world.specs.declared.entry.Entry.{Entry}
 use Rattle.om_world.specs.declared.process_state.ProcessState.{ProcessState}
 
@@ -16,7 +16,7 @@ use Rattle.om_world.specs.declared.process_state.ProcessState.{ProcessState}
 -- round is finished
 abbrev pub anew : WorldState → ManagerState → WorldState
 anew w m = record w {
-  live = cut_list (recovered m) w.live;
+  live = cut_list m.recovery w.live;
   frames = [];
   cores = replicate (length w.programs) None;
   places = replicate (length w.programs) (ProcessState.Down true);

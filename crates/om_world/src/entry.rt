@@ -1,3 +1,5 @@
+//! The entries of a run without failures.
+
 use om_format::Body;
 use om_interval::Pid;
 

@@ -1,3 +1,5 @@
+//! The events of a world, and what became of each.
+
 ghost use Rattle.std.specs.Prelude.{◌≡◌};
 
 use om_look::RowsFault;

@@ -40,7 +40,7 @@ fn add_frames(
     Ok(())
 }
 
-// The messages to each process behind the first few that are kept, on their way.
+// Returns the messages to each process behind the first few that are kept, on their way.
 fn frames_behind(
     alloc: Global,
     core: &ProcCore,
@@ -57,7 +57,8 @@ fn frames_behind(
 }
 
 impl<S: Stable> World<S> {
-    // Of the messages that a process keeps, those behind the first few to each process, on their way: none where it is down.
+    // Returns, of the messages that a process keeps, those behind the first few to each process, on their way: none where it
+    // is down.
     fn frames_past(
         &self,
         alloc: Global,

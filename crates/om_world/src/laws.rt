@@ -10,26 +10,27 @@ ghost use Rattle.om_process.specs.Turns.{Reaches};
 ghost use Rattle.om_world.specs.Live.{Closed, Legal, MayFollow, cut_list, program_at, received};
 ghost use Rattle.om_world.specs.declared.entry.Entry.{Entry};
 
-/// An entry that may follow makes a longer legal list.
+/// Proves that an entry that may follow makes a longer legal list.
 pub fn one_more()
     ensures { (programs : List Program) (es : List Entry) (e : Entry)
         → Legal programs es → MayFollow programs es e → Legal programs (es ++ e ∷ []) }
 {}
 
-/// A cut leaves each process its first receipts; where it is closed, what is left of a legal list is legal.
+/// Proves that a cut leaves each process its first receipts; where it is closed, what is left of a legal list
+/// is legal.
 pub fn cut()
-    ensures first { (s : ℕ → ℕ) (es : List Entry) (p : ℕ) → received p (cut_list s es) ≡ take (s p) (received p es) }
-    ensures legal { (programs : List Program) (s : ℕ → ℕ) (es : List Entry)
+    ensures first { (s : List ℕ) (es : List Entry) (p : ℕ) → received p (cut_list s es) ≡ take (slice_index s p) (received p es) }
+    ensures legal { (programs : List Program) (s : List ℕ) (es : List Entry)
         → Legal programs es → Closed s es → Legal programs (cut_list s es) }
 {}
 
-/// A state that the dependencies of the receipts within it do not pass is closed.
+/// Proves that a state that the dependencies of the receipts within it do not pass is closed.
 pub fn closed()
-    ensures { (programs : List Program) (s : ℕ → ℕ) (es : List Entry) → Legal programs es
-        → ((p q : ℕ) → q ≢ p → greatest_from q (take (s p) (received p es)) ≤ s q) → Closed s es }
+    ensures { (programs : List Program) (s : List ℕ) (es : List Entry) → Legal programs es
+        → ((p q : ℕ) → q ≢ p → greatest_from q (take (slice_index s p) (received p es)) ≤ slice_index s q) → Closed s es }
 {}
 
-/// Outputs that are each made at their interval are the first outputs of one state.
+/// Proves that outputs that are each made at their interval are the first outputs of one state.
 pub fn released_first()
     ensures { (programs : List Program) (p : ℕ) (es : List Entry) (outputs : List QueueEntry) → Legal programs es
         → ((i : ℕ) (e : QueueEntry) → slice_get outputs i ≡ Some e
@@ -38,7 +39,7 @@ pub fn released_first()
         × ((i : ℕ) (e : QueueEntry) → slice_get outputs i ≡ Some e → HasEntry s.queues (length programs) i e) }
 {}
 
-/// After a finished round a message that is no orphan was sent within the recovery state.
+/// Proves that after a finished round a message that is no orphan was sent within the recovery state.
 pub fn frames_cut()
     ensures { (who : List Bool) (state : List ℕ) (old new : List (List ℕ)) (program : Program) (q n inc y place number : ℕ)
         (h : List Received) (e : QueueEntry)

@@ -1,3 +1,5 @@
+//! Where a process of a world stands.
+
 ghost use Rattle.std.specs.Prelude.{◌≡◌};
 ghost use Rattle.om_world.specs.steps.Members.{place_of};
 
@@ -15,7 +17,7 @@ pub enum ProcessState {
 }
 
 impl ProcessState {
-    // The place of a process that stands so.
+    // Returns the place of a process that stands so.
     pub(crate) fn of(standing: &MemberState) -> ProcessState
         ensures { result ≡ place_of standing.now }
     {

@@ -1,6 +1,6 @@
 //! Entries that clauses alone know.
 
-ghost use Rattle.std.specs.Prelude.{◌≡◌, ◌++◌, ◌∷◌, List, [], slice_index};
+ghost use Rattle.std.specs.Prelude.{◌≡◌, ◌++◌, ◌∷◌, List, []};
 ghost use Rattle.std.specs.Borrow.{ftrue};
 ghost use Rattle.std.specs.Coded.{coded_list};
 ghost use Rattle.om_world.specs.Live.{cut_list};
@@ -23,30 +23,30 @@ impl Model for Remembered {
 }
 
 impl Remembered {
-    // No entries.
+    // Remembers no entries.
     pub(crate) fn none() -> Remembered
         ensures { result.entries ≡ [] }
     {
         Remembered {}
     }
 
-    // The same entries.
+    // Remembers the same entries.
     pub(crate) fn copy(_before: &Remembered) -> Remembered
         ensures { result.entries ≡ _before.now.entries }
     {
         Remembered {}
     }
 
-    // The entries, and behind them that of a message.
+    // Remembers the entries, and behind them that of a message.
     pub(crate) fn longer(_before: &Remembered, _message: &Message) -> Remembered
         ensures { result.entries ≡ _before.now.entries ++ entry_of _message.now ∷ [] }
     {
         Remembered {}
     }
 
-    // Of each process its first entries, as many as the state says.
+    // Remembers of each process its first entries, as many as the state says.
     pub(crate) fn cut(_before: &Remembered, _state: &DepVec) -> Remembered
-        ensures { result.entries ≡ cut_list (λ p. slice_index _state.now p) _before.now.entries }
+        ensures { result.entries ≡ cut_list _state.now _before.now.entries }
     {
         Remembered {}
     }

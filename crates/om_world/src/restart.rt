@@ -48,7 +48,7 @@ pub(crate) fn put_down<S: Stable>(members: &mut Vec<Member<S>>)
 
 // Leaves of what was received what a restart recovers: of what was received last, or before the last finished round.
 fn begin_live(live: &mut Remembered, since: &mut Since, state: &DepVec, current: bool)
-    ensures live { live.new.entries ≡ cut_list (λ p. slice_index state.now p) (cond current live.old.entries since.old.before) }
+    ensures live { live.new.entries ≡ cut_list state.now (cond current live.old.entries since.old.before) }
     ensures since { since.new ≡ record { before = cond current live.old.entries since.old.before; stored = false } }
 {
     since.restart(live, current);
@@ -130,7 +130,7 @@ impl<S: Stable> World<S> {
         Ok(())
     }
 
-    // The manager that a restart starts with: it recovers no less than this one.
+    // Makes the manager that a restart starts with: it recovers no less than this one.
     fn manager_anew(&mut self, alloc: Global) -> Result<Manager, Refusal>
         ensures made { IfOk result (λ manager. IsAnew self.new manager) }
         ensures read { HasRead self.old self.new }

@@ -63,7 +63,7 @@ impl<S: Stable> World<S> {
         }
     }
 
-    // A process that is in and not rolled back goes on as it was.
+    // Lets a process that is in and not rolled back go on as it was.
     fn go_on(&mut self, alloc: Global, p: usize) -> Result<(), Refusal>
         requires there { p < length self.old.programs }
         requires due { IsToGoOn self.old p }
@@ -114,8 +114,8 @@ impl<S: Stable> World<S> {
         }
     }
 
-    // A process that is in or down comes up again after a newer round: replayed from its store where it is down or the
-    // round rolls it back, else as it was. Where it is not replayed, a process that was to be rolled back is down.
+    // Brings a process that is in or down up again after a newer round: replayed from its store where it is down or
+    // the round rolls it back, else as it was. Where it is not replayed, a process that was to be rolled back is down.
     pub(crate) fn resume(&mut self, alloc: Global, p: usize) -> Result<Answer, Refusal>
         ensures happened { IsKnown self.new → Happened self.old (Event.Resume p) (answered result) self.new }
         ensures keeps { Keeps self.old self.new }

@@ -23,7 +23,7 @@ impl Model for Since {
 }
 
 impl Since {
-    // Since the start.
+    // Begins with the start.
     pub(crate) fn new() -> Since
         ensures { result ≡ record { before = []; stored = false } }
     {
@@ -33,7 +33,7 @@ impl Since {
         }
     }
 
-    // Since a round that cuts these entries.
+    // Begins with a round that cuts these entries.
     pub(crate) fn at(before: Remembered) -> Since
         ensures { result ≡ record { before = before.entries; stored = false } }
     {
@@ -43,21 +43,21 @@ impl Since {
         }
     }
 
-    // Whether a process has stored.
+    // Returns whether a process has stored.
     pub(crate) fn has_stored(&self) -> bool
         ensures { result ≡ self.now.stored }
     {
         self.stored
     }
 
-    // What had been received before the round cut it.
+    // Returns what had been received before the round cut it.
     pub(crate) fn before(&self) -> &Remembered
         ensures { result.now.entries ≡ self.now.before }
     {
         &self.before
     }
 
-    // A store was called, and rows are pending behind it or not: where none is, it holds no more than before.
+    // Notes that a store was called, and rows are pending behind it or not: where none is, it holds no more than before.
     pub(crate) fn note_stored(&mut self, told: &Result<(), Refusal>, has_rows: bool)
         ensures { self.new ≡ since_told has_rows told.now self.old }
     {
@@ -66,7 +66,7 @@ impl Since {
         }
     }
 
-    // A round finishes, and is about to cut this.
+    // Notes that a round finishes, and is about to cut what was received.
     pub(crate) fn finish(&mut self, live: &Remembered)
         ensures { self.new ≡ record { before = live.now.entries; stored = false } }
     {
@@ -74,7 +74,7 @@ impl Since {
         self.stored = false;
     }
 
-    // All starts anew over what was received, or over what had been before the last finished round.
+    // Notes that all starts anew over what was received, or over what had been before the last finished round.
     pub(crate) fn restart(&mut self, live: &Remembered, current: bool)
         ensures { self.new ≡ record { before = cond current live.now.entries self.old.before; stored = false } }
     {

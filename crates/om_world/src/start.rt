@@ -87,7 +87,7 @@ fn start_all<S: Stable>(
     Ok(members)
 }
 
-// The manager of so many processes at their start.
+// Makes the manager of so many processes at their start.
 pub(crate) fn new_manager(alloc: Global, n: usize) -> Result<Manager, AllocError>
     requires some { 1 ≤ n }
     requires few { n ≤ MAX_PROCESSES }

@@ -72,7 +72,7 @@ impl<S: Stable> Stopped<S> {
         self.images.len()
     }
 
-    // What holds of what is left of a world, by its type.
+    // Tells what holds of what is left of a world, by its type.
     pub(crate) fn told(&self)
         ensures shape { HasShape self.now }
         ensures stands { IsKnown self.now → (run : List Entry) → IsLeft self.now run → CanRestart (along self.now run) }
@@ -80,7 +80,7 @@ impl<S: Stable> Stopped<S> {
         let _ = &self.images;
     }
 
-    /// The outputs of a process that were released, in order.
+    /// Returns the outputs of a process that were released, in order.
     pub fn released(&self, pid: Pid) -> &[Output]
         requires { pid < length self.now.programs }
         ensures outputs { map held_of result.now ≡ released_by self.now.manager pid }

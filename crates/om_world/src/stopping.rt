@@ -44,7 +44,7 @@ fn end_all<S: Stable>(members: &mut Vec<Member<S>>)
     }
 }
 
-// A copy of an output.
+// Copies an output.
 fn copy_of(alloc: Global, output: &Output) -> Result<Output, AllocError>
     ensures held { IfOk result (λ copy. held_of copy ≡ held_of output.now) }
     ensures seq { IfOk result (λ copy. copy.seq ≡ output.now.seq) }
@@ -56,7 +56,7 @@ fn copy_of(alloc: Global, output: &Output) -> Result<Output, AllocError>
     })
 }
 
-// A copy of outputs.
+// Copies outputs.
 fn copies_of(alloc: Global, outputs: &[Output]) -> Result<Vec<Output>, AllocError>
     ensures held { IfOk result (λ copies. map held_of copies.items ≡ map held_of outputs.now) }
     ensures numbers { IfOk result (λ copies. map (λ o. o.seq) copies.items ≡ map (λ o. o.seq) outputs.now) }
@@ -68,7 +68,7 @@ fn copies_of(alloc: Global, outputs: &[Output]) -> Result<Vec<Output>, AllocErro
     Ok(copies)
 }
 
-// The released outputs of a process.
+// Returns the released outputs of a process.
 fn released_of(alloc: Global, manager: &Manager, pid: Pid) -> Result<Vec<Output>, AllocError>
     requires { pid < process_count manager.now }
     ensures held { IfOk result (λ outputs. map held_of outputs.items ≡ held_within manager.now pid) }
@@ -77,7 +77,7 @@ fn released_of(alloc: Global, manager: &Manager, pid: Pid) -> Result<Vec<Output>
     copies_of(alloc, manager.released(pid))
 }
 
-// The released outputs of each process.
+// Returns the released outputs of each process.
 fn released_by(alloc: Global, manager: &Manager) -> Result<Vec<Vec<Output>>, AllocError>
     ensures long { IfOk result (λ released. length released.items ≡ process_count manager.now) }
     ensures released { IfOk result (λ released. AreReleasedBy manager.now released.items) }

@@ -100,7 +100,7 @@ impl<S: Stable> Stopped<S> {
         true
     }
 
-    // The manager that starts over what is left: it releases all that was released.
+    // Makes the manager that starts over what is left: it releases all that was released.
     fn manager_anew(&mut self, alloc: Global) -> Result<Manager, Refusal>
         ensures made { IfOk result (λ manager. IsAnew self.new manager) }
         ensures read { HasRead self.old self.new }
@@ -120,7 +120,7 @@ impl<S: Stable> Stopped<S> {
         Ok(manager)
     }
 
-    // The world over what is left, with this manager.
+    // Makes the world over what is left, with this manager.
     fn into_world(self, alloc: Global, manager: Manager) -> World<S>
         requires anew { IsAnew self manager }
         requires whole { IsWhole self }
@@ -149,7 +149,7 @@ impl<S: Stable> Stopped<S> {
     }
 }
 
-// What was received, or what had been before the last finished round.
+// Returns what was received, or what had been before the last finished round.
 fn run_of(live: Remembered, since: Since, current: bool) -> Remembered
     ensures { result.entries ≡ cond current live.entries since.before }
 {

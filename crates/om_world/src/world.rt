@@ -66,14 +66,14 @@ impl<S: Stable> World<S> {
         &self.frames
     }
 
-    /// The manager.
+    /// Returns the manager.
     pub fn manager(&self) -> &Manager
         ensures { result.now ≡ self.now.manager }
     {
         &self.manager
     }
 
-    /// The core of a process: none where the process is down, and where there is no such process.
+    /// Returns the core of a process: none where the process is down, and where there is no such process.
     pub fn core(&self, pid: Pid) -> Option<&ProcCore>
         ensures some { IfSome result (λ core. slice_get self.now.cores pid ≡ Some (Some core.now)) }
         ensures own { IfSome result (λ core. core.now.own ≡ pid) }
@@ -88,7 +88,7 @@ impl<S: Stable> World<S> {
 }
 
 impl<S: Stable> World<S> {
-    // What holds of a world of which all is known; and over stores that are always clean, that all are.
+    // Tells what holds of a world of which all is known; and over stores that are always clean, that all are.
     pub(crate) fn told(&self)
         ensures holds { IsKnown self.now → Holds self.now }
         ensures always { ((store : S) → IsTrue (S.is_clean store)) → all_clean self.now.health ≡ true }

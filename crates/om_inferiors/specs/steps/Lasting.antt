@@ -22,13 +22,13 @@ pub record IsOwnLater (olds news : List Inferior) (last place later : ℕ) (stop
   pub run : IsRunBackAt olds news place stop
   pub order : IsBehindAt news last place
 
--- or its own is not behind that
+-- the one that was last before has gone back to its own stop, and the stop of one more is not behind that
 pub record IsStillLast (olds news : List Inferior) (last : ℕ) (its_stop : Stop) (place later : ℕ) (stop : Stop) : Type 0 where
   pub which : later ≡ last
   pub same : stop ≡ its_stop
   pub by : (old new : Inferior) → slice_get olds place ≡ Some old → slice_get news last ≡ Some new → StopsBy old new.debugger.timeline.event new.debugger.timeline.turns
 
--- of the two this is the later
+-- of the last one before and one more this is the later
 abbrev pub IsLaterOf : List Inferior → List Inferior → ℕ → Stop → ℕ → ℕ → Stop → Type 0
 IsLaterOf olds news last its_stop place later stop = IsOwnLater olds news last place later stop ⊎ IsStillLast olds news last its_stop place later stop
 

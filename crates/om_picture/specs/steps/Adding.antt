@@ -99,7 +99,7 @@ pub record Moves (x : ℕ) (old new : Edge) : Type 0 where
   pub inside : x ≤ new.right
   pub room : new.right ≤ old.right + WIDEST
 
--- and nothing else changes
+-- the next column stands at a place, right of the last one, and nothing else changes
 abbrev pub MovesTo : ℕ → Sketch → Sketch → Type 0
 MovesTo x old new = (new ≡ record old { edge = new.edge }) × Moves x old.edge new.edge
 
@@ -219,13 +219,13 @@ pub record Stays (old new : LaneState) : Type 0 where
   pub ended : new.ended ≡ old.ended
   pub reached : new.reached ≡ old.reached
 
--- the same, where its place in a recovery state is told
+-- what is known of a process stays, but for its place in a recovery state, which is told
 pub record TellsPlace (place : ℕ) (old new : LaneState) : Type 0 where
   pub progress : new.progress ≡ old.progress
   pub ended : new.ended ≡ old.ended
   pub reached : new.reached ≡ max old.reached place
 
--- and what that covers waits no more
+-- the place of a process in a recovery state is told, and what that covers waits no more
 pub record Learns (place : ℕ) (old new : LaneState) : Type 0 where
   pub told : TellsPlace place old new
   pub held : held_in new ≡ left_behind new.reached (held_in old)
@@ -275,7 +275,7 @@ pub record LearnsBelow (row : EventRow) (old new : Sketch) (p : ℕ) : Type 0 wh
   pub learned : (q : ℕ) → q < p → Learns (slice_index row.recovery q) (lane_of old q) (lane_of new q)
   pub others : (q : ℕ) → p ≤ q → lane_of new q ≡ lane_of old q
 
--- all lanes do
+-- all lanes learn of their places in the recovery state
 pub record LearnsAll (row : EventRow) (old new : Sketch) : Type 0 where
   pub keeps : (later : List EventRow) → KeepsWith (freed_below row old (length old.lanes)) (amid_marks row later) old new
   pub lanes : (p : ℕ) → p < length old.lanes → Learns (slice_index row.recovery p) (lane_of old p) (lane_of new p)
@@ -286,18 +286,18 @@ pub record SettlesSome (finished : Bool) (old new : Sketch) (p : ℕ) : Type 0 w
   pub here : Stays (lane_of old p) (lane_of new p)
   pub others : (q : ℕ) → q ≢ p → lane_of new q ≡ lane_of old q
 
--- all of it
+-- all that waits on a lane is settled
 pub record SettlesLane (finished : Bool) (old new : Sketch) (p : ℕ) : Type 0 where
   pub some : SettlesSome finished old new p
   pub empty : (lane_of new p).waiting ≡ []
 
--- and on the lanes below one
+-- all that waits on the lanes below one is settled
 pub record SettlesBelow (finished : Bool) (old new : Sketch) (p : ℕ) : Type 0 where
   pub keeps : KeepsMarks (now_marks finished) old new
   pub lanes : (q : ℕ) → Stays (lane_of old q) (lane_of new q)
   pub empty : (q : ℕ) → q < p → (lane_of new q).waiting ≡ []
 
--- and on all lanes
+-- all that waits on any lane is settled
 pub record SettlesAll (finished : Bool) (old new : Sketch) : Type 0 where
   pub keeps : KeepsMarks (now_marks finished) old new
   pub lanes : (p : ℕ) → Stays (lane_of old p) (lane_of new p)

@@ -12,7 +12,7 @@ fault_of_loading load_faults.ImageTooLong = ImageTooLong
 fault_of_loading load_faults.BadSize = BadSize
 fault_of_loading load_faults.Memory = Memory
 
--- and where its store refused the checkpoint
+-- why a process is not started where its store refused the checkpoint
 abbrev pub fault_of_storing : StoreError → StartFault
 fault_of_storing store_errors.Present = Present
 fault_of_storing store_errors.Fault = Fault

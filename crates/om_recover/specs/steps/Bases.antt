@@ -15,7 +15,7 @@ newest_entries p [] = []
 newest_entries p (None ∷ more) = newest_entries (p + 1) more
 newest_entries p (Some newest ∷ more) = ((p, newest.interval), newest.base) ∷ newest_entries (p + 1) more
 
--- all checkpoints
+-- all checkpoints, by process and interval
 abbrev pub base_entries : Bases → List ((ℕ × ℕ) × Base)
 base_entries bases = newest_entries 0 bases.newest.items ++ bases.others.entries
 

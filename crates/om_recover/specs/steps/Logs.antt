@@ -16,7 +16,7 @@ abbrev pub run_entries : ℕ → List Run → List ((ℕ × ℕ) × Vectors)
 run_entries p [] = []
 run_entries p (run ∷ runs) = entries_from p run.first run.logs ++ run_entries (p + 1) runs
 
--- all logs
+-- all logs, by process and interval
 abbrev pub log_entries : Logs → List ((ℕ × ℕ) × Vectors)
 log_entries logs = run_entries 0 logs.runs.items ++ logs.others.entries
 

@@ -1,3 +1,5 @@
+//! How a row is added.
+
 ghost use Rattle.std.specs.Prelude.{◌≡◌, ℕ, ◌<◌, ◌≤◌, ◌+◌, ◌^◌, OnOk, OnErr, Some, IsTrue, ◌↔◌, IsSome, MatchOption};
 ghost use Rattle.std.specs.FinSet as set;
 ghost use Rattle.om_recover.specs.Rows.{Has, IsLawful};
@@ -87,7 +89,7 @@ fn is_next(last: u32, x: u32) -> bool
     last < x && x - last == 1
 }
 
-// The last of the logs that follow on an interval, one on another, below the next checkpoint.
+// Returns the last of the logs that follow on an interval, one on another, below the next checkpoint.
 fn last_of_run(trees: &Trees, pid: Pid, x: u32) -> u32
     requires { AreTrees trees.now }
     ensures { IsRun (held trees.now) pid x result }

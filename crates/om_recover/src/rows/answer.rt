@@ -1,3 +1,5 @@
+//! The answer to a row that is offered.
+
 ghost use Rattle.std.specs.Prelude.{◌≡◌, ℕ, ◌<◌, ◌≤◌, ◌↔◌, ◌⊎◌, length, false, slice_index, IsTrue, IfSome, MatchOption};
 ghost use Rattle.om_recover.specs.Rows.{HasRow, IsFair, IsAtMost, HaveSameVectors, IsLawful};
 ghost use Rattle.om_recover.specs.Offered.{IsNew, IsOffer, IsInOrderBelow, IsInOrderAbove, Agrees};
@@ -13,7 +15,7 @@ use crate::rows::logs::{log_at, log_from};
 use crate::rows::lookup::{record_from, record_to, vectors_of};
 use crate::rows::trees::Trees;
 
-// The answer to a row that is not added, or `None` where the row is new.
+// Returns the answer to a row that is not added, or `None` where the row is new.
 pub fn answer_without_change(trees: &Trees, n: usize, row: &Row) -> Option<Result<Note, NoteError>>
     requires in_order { AreTrees trees.now }
     requires lawful { IsLawful n (held trees.now) }
@@ -32,7 +34,7 @@ pub fn answer_without_change(trees: &Trees, n: usize, row: &Row) -> Option<Resul
     answer_amid(trees, n, row)
 }
 
-// The answer to a row above all of its process's.
+// Returns the answer to a row above all of its process's.
 fn answer_beyond(trees: &Trees, n: usize, row: &Row) -> Option<Result<Note, NoteError>>
     requires in_order { AreTrees trees.now }
     requires lawful { IsLawful n (held trees.now) }
@@ -47,7 +49,7 @@ fn answer_beyond(trees: &Trees, n: usize, row: &Row) -> Option<Result<Note, Note
     }
 }
 
-// The answer to a row with others of its process at its interval or above.
+// Returns the answer to a row with others of its process at its interval or above.
 fn answer_amid(trees: &Trees, n: usize, row: &Row) -> Option<Result<Note, NoteError>>
     requires in_order { AreTrees trees.now }
     requires lawful { IsLawful n (held trees.now) }
@@ -123,7 +125,7 @@ fn is_at_most(low: &Row, high: &Row) -> bool
     low.vec.leq(&high.vec) && low.got.leq(&high.got)
 }
 
-// The interval of the nearest row below, where it has not at most the row's vectors.
+// Returns the interval of the nearest row below, where it has not at most the row's vectors.
 fn fault_below(trees: &Trees, n: usize, row: &Row) -> Option<u32>
     requires in_order { AreTrees trees.now }
     requires lawful { IsLawful n (held trees.now) }
@@ -138,7 +140,7 @@ fn fault_below(trees: &Trees, n: usize, row: &Row) -> Option<u32>
     }
 }
 
-// The interval of the nearest row above, where it has not at least the row's vectors.
+// Returns the interval of the nearest row above, where it has not at least the row's vectors.
 fn fault_above(trees: &Trees, n: usize, row: &Row) -> Option<u32>
     requires in_order { AreTrees trees.now }
     requires lawful { IsLawful n (held trees.now) }
@@ -198,7 +200,7 @@ fn is_last(trees: &Trees, row: &Row) -> bool
     }
 }
 
-// Of the process's rows below the row's interval, the nearest.
+// Returns the nearest of the process's rows below the row's interval.
 fn nearest_below(trees: &Trees, row: &Row) -> Option<Row>
     requires { AreTrees trees.now }
     ensures { MatchOption result (HasNoRowBelow (held trees.now) row.now) (IsNearestBelow (held trees.now) row.now) }
@@ -217,7 +219,7 @@ fn nearest_below(trees: &Trees, row: &Row) -> Option<Row>
     }
 }
 
-// Of the process's rows above the row's interval, the nearest.
+// Returns the nearest of the process's rows above the row's interval.
 fn nearest_above(trees: &Trees, row: &Row) -> Option<Row>
     requires in_order { AreTrees trees.now }
     requires lawful { (n : ℕ) × IsLawful n (held trees.now) }

@@ -1,3 +1,5 @@
+//! Look-ups of checkpoints.
+
 ghost use Rattle.std.specs.Prelude.{◌≡◌, ◌<◌, None, Some, MatchOption};
 ghost use Rattle.om_recover.specs.steps.Nearest.{at, IsNearestTo, IsNearestFrom, HasNoneTo, HasNoneFrom};
 ghost use Rattle.om_recover.specs.steps.Bases.{AreBases, IsNewest, HasNoNewest, base_entries};
@@ -7,7 +9,7 @@ use crate::rows::trees::{Base, Bases, Newest};
 use om_interval::Pid;
 use std::collections::BTreeMap;
 
-/// The checkpoint of an interval of a process.
+/// Returns the checkpoint of an interval of a process, or `None` where it has none.
 pub fn base_at(bases: &Bases, pid: Pid, x: u32) -> Option<&Base>
     requires { AreBases bases.now }
     ensures { MatchOption result (at (base_entries bases.now) pid x ≡ None) (λ base. at (base_entries bases.now) pid x ≡ Some base.now) }
@@ -45,7 +47,7 @@ fn other_at(others: &BTreeMap<(Pid, u32), Base>, pid: Pid, x: u32) -> Option<&Ba
     }
 }
 
-/// Of a process's checkpoints at or below an interval, the nearest.
+/// Returns the nearest of a process's checkpoints at or below an interval, with its own interval.
 pub fn base_to(bases: &Bases, pid: Pid, to: u32) -> Option<(u32, &Base)>
     requires { AreBases bases.now }
     ensures { MatchOption result
@@ -61,7 +63,7 @@ pub fn base_to(bases: &Bases, pid: Pid, to: u32) -> Option<(u32, &Base)>
     nearest_to(&bases.others, pid, to)
 }
 
-/// Of a process's checkpoints at or above an interval, the nearest.
+/// Returns the nearest of a process's checkpoints at or above an interval, with its own interval.
 pub fn base_from(bases: &Bases, pid: Pid, from: u32) -> Option<(u32, &Base)>
     requires { AreBases bases.now }
     ensures { MatchOption result

@@ -1,3 +1,5 @@
+//! How rows above a state are cut, and those below checkpoints pruned.
+
 ghost use Rattle.std.specs.Prelude.{◌≡◌, ℕ, ◌<◌, length, slice_index, min, nat_le};
 ghost use Rattle.om_recover.specs.Cutting.{AreEffective, cut_to, pruned_to};
 ghost use Rattle.om_recover.specs.Recoverable.{IsRecoverable};
@@ -172,7 +174,7 @@ fn number_or_zero(vector: &DepVec, place: usize) -> u32
     vector.as_slice().get(place).copied().unwrap_or(0)
 }
 
-/// By process, the checkpoint that is used for its place of the state.
+/// Returns, by process, the interval of the checkpoint that is used for its place of the state.
 pub fn effective_of_all(trees: &Trees, state: &DepVec) -> DepVec
     requires in_order { AreTrees trees.now }
     requires recoverable { IsRecoverable (length state.now) (held trees.now) state.now }

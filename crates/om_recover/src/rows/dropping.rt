@@ -1,3 +1,5 @@
+//! How entries of a tree are dropped.
+
 ghost use Rattle.std.specs.Prelude.{◌<◌, MatchOption};
 ghost use Rattle.om_recover.specs.steps.Nearest.{at, AreSorted, AreFrom, ArePruned, IsBelowBound, HasNoneBelow};
 
@@ -26,7 +28,7 @@ fn drop_below<V: Drop>(entries: &mut BTreeMap<(Pid, u32), V>, pid: Pid, from: u3
     }
 }
 
-// The interval of a process's first entry, if that is below a bound.
+// Returns the interval of a process's first entry, if that is below a bound.
 fn first_below<V>(entries: &BTreeMap<(Pid, u32), V>, pid: Pid, from: u32) -> Option<u32>
     ensures { MatchOption result (HasNoneBelow entries.now.entries pid from) (IsBelowBound entries.now.entries pid from) }
 {

@@ -1,3 +1,5 @@
+//! The rows of processes at their start.
+
 ghost use Rattle.std.specs.Prelude.{◌≡◌, ℕ, ◌<◌, ◌≤◌, IfOk, OnOk};
 ghost use Rattle.std.specs.FinSet as set;
 ghost use Rattle.om_interval.specs.declared.pid.TheConstants.{MAX_PROCESSES};
@@ -15,7 +17,7 @@ use om_interval::{DepVec, Pid};
 use std::alloc::{AllocError, Global};
 use std::collections::BTreeMap;
 
-/// The trees of no rows of `n` processes.
+/// Makes the trees of no rows of `n` processes.
 pub fn no_rows(alloc: Global, n: usize) -> Result<Trees, AllocError>
     ensures { IfOk result (λ trees. Hold trees set.empty) }
 {

@@ -1,3 +1,5 @@
+//! The rows of a cluster, and what a search reads of them.
+
 ghost use Rattle.std.specs.Prelude.{◌≡◌, ℕ, ◌<◌, ◌≤◌, ◌↔◌, false, length, replicate, slice_index, IsTrue, IfOk, OnOk, OnErr, IfSome, MatchOption};
 ghost use Rattle.std.specs.FinSet as set;
 ghost use Rattle.om_interval.specs.declared.pid.TheConstants.{MAX_PROCESSES};
@@ -69,7 +71,7 @@ impl Shelf for Index {
 }
 
 impl Index {
-    /// Checkpoint 0 of each of `n` processes.
+    /// Makes the index of checkpoint 0 of each of `n` processes.
     pub fn new(alloc: Global, n: usize) -> Result<Index, AllocError>
         requires some { 1 ≤ n }
         requires within { n ≤ MAX_PROCESSES }
@@ -82,7 +84,7 @@ impl Index {
         Ok(Index { trees })
     }
 
-    /// The answer to a row that is not added, or `None` where the row is new.
+    /// Returns the answer to a row that is not added, or `None` where the row is new.
     pub fn answer(&self, n: usize, row: &Row) -> Option<Result<Note, NoteError>>
         requires { IsLawful n self.now }
         ensures answer { MatchOption result (IsNew n self.now row.now) (IsAnswered n self.now row.now) }
@@ -125,7 +127,7 @@ impl Index {
         add(&mut self.trees, row)
     }
 
-    /// The checkpoint that is used for a stable interval of a process.
+    /// Returns the interval of the checkpoint that is used for a stable interval of a process.
     pub fn effective(&self, pid: Pid, x: u32) -> u32
         requires { IsStable self.now pid x }
         ensures { IsEffective self.now pid x result }

@@ -1,3 +1,5 @@
+//! How a log is added: to the run of its process, or to the tree.
+
 ghost use Rattle.std.specs.Prelude.{◌≡◌, ◌+◌, None, IfSome, OnOk, OnErr, IsTrue};
 ghost use Rattle.om_recover.specs.steps.Nearest.{at};
 ghost use Rattle.om_recover.specs.steps.Logs.{AreLogs, ArePushed, AreSame, AreSameRuns, IsBehind, IsLaid, IsLonger, IsNextIn, IsNextInRuns, IsSameRun, log_entries};

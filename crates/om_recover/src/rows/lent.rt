@@ -1,3 +1,5 @@
+//! The vectors of an interval, read where they lie.
+
 ghost use Rattle.std.specs.Prelude.{◌≡◌, ◌+◌, ◌≤◌, ◌<◌, length, slice_index, IsTrue};
 ghost use Rattle.om_interval.specs.Vectors.{IsBelow};
 ghost use Rattle.om_interval.specs.declared.pid.TheConstants.{MAX_PROCESSES};
@@ -27,7 +29,7 @@ impl<'a> Model for Lent<'a> {
 }
 
 impl<'a> Lent<'a> {
-    /// Vectors that are kept as such.
+    /// Lends vectors that are kept as such.
     pub fn of(vec: &'a DepVec, got: &'a DepVec) -> Lent<'a>
         ensures { result ≡ record { vec = vec.now; got = got.now } }
     {
@@ -37,7 +39,7 @@ impl<'a> Lent<'a> {
         }
     }
 
-    /// Vectors that lie one behind the other, each of as many places.
+    /// Lends vectors that lie one behind the other, each of `n` places.
     pub fn of_halves(numbers: &'a [u32], n: usize) -> Lent<'a>
         requires some { 1 ≤ n }
         requires within { n ≤ MAX_PROCESSES }
@@ -48,7 +50,7 @@ impl<'a> Lent<'a> {
         Lent { vec, got }
     }
 
-    /// The numbers of the dependency vector.
+    /// Returns the numbers of the dependency vector.
     pub fn vec_numbers(&self) -> &[u32]
         ensures numbers { result.now ≡ self.now.vec }
         ensures some { 1 ≤ length self.now.vec }
@@ -57,35 +59,35 @@ impl<'a> Lent<'a> {
         self.vec
     }
 
-    /// The numbers of messages got, by sender.
+    /// Returns the numbers of messages got, by sender.
     pub fn got_numbers(&self) -> &[u32]
         ensures numbers { result.now ≡ self.now.got }
     {
         self.got
     }
 
-    /// The numbers of the dependency vector, for as long as they lie there.
+    /// Returns the numbers of the dependency vector, for as long as they lie there.
     pub fn into_vec(self) -> &'a [u32]
         ensures { result.now ≡ self.entry.vec }
     {
         self.vec
     }
 
-    /// The dependency vector, on its own.
+    /// Returns the dependency vector, on its own.
     pub fn vec(&self) -> DepVec
         ensures { result ≡ self.now.vec }
     {
         DepVec::from_slice(self.vec).unwrap()
     }
 
-    /// The vector of what was got, on its own.
+    /// Returns the vector of what was got, on its own.
     pub fn got(&self) -> DepVec
         ensures { result ≡ self.now.got }
     {
         DepVec::from_slice(self.got).unwrap()
     }
 
-    /// Both, on their own.
+    /// Returns both vectors, on their own.
     pub fn kept(&self) -> Vectors
         ensures { result ≡ self.now }
     {
@@ -103,7 +105,7 @@ impl<'a> Lent<'a> {
         number_of(self.got, sender)
     }
 
-    /// Returns whether they are these.
+    /// Returns whether the vectors are these.
     pub fn are(&self, vec: &DepVec, got: &DepVec) -> bool
         ensures vec { IsTrue result → self.now.vec ≡ vec.now }
         ensures got { IsTrue result → self.now.got ≡ got.now }

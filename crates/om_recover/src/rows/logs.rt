@@ -1,3 +1,5 @@
+//! Look-ups of logs.
+
 ghost use Rattle.std.specs.Prelude.{◌≡◌, ℕ, None, Some, MatchOption};
 ghost use Rattle.om_recover.specs.steps.Nearest.{at, IsNearestTo, IsNearestFrom, HasNoneTo, HasNoneFrom};
 ghost use Rattle.om_recover.specs.steps.Logs.{AreLogs, IsInRun, IsOutside, IsInRuns, IsOutsideRuns, log_entries, IsRunTo, IsRunFrom, HasNoRunTo, HasNoRunFrom};
@@ -8,7 +10,7 @@ use crate::rows::trees::{Logs, Run, Vectors};
 use om_interval::Pid;
 use std::collections::BTreeMap;
 
-/// The vectors of the log of an interval of a process.
+/// Returns the vectors of the log of an interval of a process, or `None` where it has none.
 pub fn log_at(logs: &Logs, pid: Pid, x: u32) -> Option<Lent<'_>>
     ensures { MatchOption result
         (at (log_entries logs.now) pid x ≡ None)
@@ -45,7 +47,7 @@ fn in_run(run: &Run, x: u32) -> Option<Lent<'_>>
     }
 }
 
-/// Of a process's logs at or below an interval, the nearest.
+/// Returns the nearest of a process's logs at or below an interval, with its own interval.
 pub fn log_to(logs: &Logs, pid: Pid, to: u32) -> Option<(u32, Lent<'_>)>
     requires { AreLogs logs.now }
     ensures { MatchOption result
@@ -68,7 +70,7 @@ pub fn log_to(logs: &Logs, pid: Pid, to: u32) -> Option<(u32, Lent<'_>)>
     }
 }
 
-// Of the logs of a process's run at or below an interval, the nearest.
+// Returns the nearest of the logs of a process's run at or below an interval.
 fn run_to(runs: &[Run], pid: Pid, to: u32) -> Option<(u32, Lent<'_>)>
     ensures { MatchOption result (HasNoRunTo runs.now pid to) (λ found. IsRunTo runs.now pid to found.0 found.1) }
 {
@@ -81,7 +83,7 @@ fn run_to(runs: &[Run], pid: Pid, to: u32) -> Option<(u32, Lent<'_>)>
     Some((to, run.logs.at(place)))
 }
 
-// Of a process's logs in the tree at or below an interval, the nearest.
+// Returns the nearest of a process's logs in the tree at or below an interval.
 fn other_to(others: &BTreeMap<(Pid, u32), Vectors>, pid: Pid, to: u32) -> Option<(u32, Lent<'_>)>
     ensures { MatchOption result
         (HasNoneTo others.now.entries pid to)
@@ -93,7 +95,7 @@ fn other_to(others: &BTreeMap<(Pid, u32), Vectors>, pid: Pid, to: u32) -> Option
     }
 }
 
-/// Of a process's logs at or above an interval, the nearest.
+/// Returns the nearest of a process's logs at or above an interval, with its own interval.
 pub fn log_from(logs: &Logs, pid: Pid, from: u32) -> Option<(u32, Lent<'_>)>
     requires { AreLogs logs.now }
     ensures { MatchOption result
@@ -113,7 +115,7 @@ pub fn log_from(logs: &Logs, pid: Pid, from: u32) -> Option<(u32, Lent<'_>)>
     }
 }
 
-// Of the logs of a process's run at or above an interval, the nearest.
+// Returns the nearest of the logs of a process's run at or above an interval.
 fn run_from(runs: &[Run], pid: Pid, from: u32) -> Option<(u32, Lent<'_>)>
     ensures { MatchOption result (HasNoRunFrom runs.now pid from) (λ found. IsRunFrom runs.now pid from found.0 found.1) }
 {
@@ -125,7 +127,7 @@ fn run_from(runs: &[Run], pid: Pid, from: u32) -> Option<(u32, Lent<'_>)>
     }
 }
 
-// Of a process's logs in the tree at or above an interval, the nearest.
+// Returns the nearest of a process's logs in the tree at or above an interval.
 fn other_from(
     others: &BTreeMap<(Pid, u32), Vectors>,
     pid: Pid,

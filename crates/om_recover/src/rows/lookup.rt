@@ -1,3 +1,5 @@
+//! Look-ups of records of either kind.
+
 ghost use Rattle.std.specs.Prelude.{◌≡◌, ℕ, ◌<◌, ◌≤◌, MatchOption};
 ghost use Rattle.om_recover.specs.Cutting.{IsEffective, IsGotAt, IsGotFrom};
 ghost use Rattle.om_recover.specs.Recoverable.{IsStable};
@@ -11,7 +13,7 @@ use crate::rows::logs::{log_at, log_from, log_to};
 use crate::rows::trees::{Trees, Vectors};
 use om_interval::{DepVec, Pid};
 
-/// The vectors of a record.
+/// Returns the vectors of a record, or `None` where there is no such record.
 pub fn vectors_of(trees: &Trees, kind: RowKind, pid: Pid, x: u32) -> Option<Lent<'_>>
     requires { AreTrees trees.now }
     ensures { MatchOption result (Has (held trees.now) kind pid x → ⊥)
@@ -29,7 +31,7 @@ pub fn vectors_of(trees: &Trees, kind: RowKind, pid: Pid, x: u32) -> Option<Lent
     }
 }
 
-/// Of a process's records of a kind at or below an interval, the nearest.
+/// Returns the nearest of a process's records of a kind at or below an interval.
 pub fn record_to(trees: &Trees, kind: RowKind, pid: Pid, to: u32) -> Option<Row>
     requires { AreTrees trees.now }
     ensures { MatchOption result ((x : ℕ) → Has (held trees.now) kind pid x → x ≤ to → ⊥) (IsRecordTo (held trees.now) kind pid to) }
@@ -46,7 +48,7 @@ pub fn record_to(trees: &Trees, kind: RowKind, pid: Pid, to: u32) -> Option<Row>
     }
 }
 
-/// Of a process's records of a kind at or above an interval, the nearest.
+/// Returns the nearest of a process's records of a kind at or above an interval.
 pub fn record_from(trees: &Trees, kind: RowKind, pid: Pid, from: u32) -> Option<Row>
     requires { AreTrees trees.now }
     ensures { MatchOption result ((x : ℕ) → Has (held trees.now) kind pid x → from ≤ x → ⊥)
@@ -76,7 +78,7 @@ fn row(kind: RowKind, pid: Pid, interval: u32, vectors: Vectors) -> Row
     }
 }
 
-// The vectors of an interval that has a record.
+// Returns the vectors of an interval that has a record.
 fn vectors_at(trees: &Trees, pid: Pid, x: u32) -> Lent<'_>
     requires in_order { AreTrees trees.now }
     requires there { (kind : _) × Has (held trees.now) kind pid x }
@@ -91,7 +93,7 @@ fn vectors_at(trees: &Trees, pid: Pid, x: u32) -> Lent<'_>
     }
 }
 
-/// The numbers of the dependency vector of an interval of a process that has a record.
+/// Returns the numbers of the dependency vector of an interval of a process that has a record.
 pub fn vec_at(trees: &Trees, pid: Pid, x: u32) -> &[u32]
     requires in_order { AreTrees trees.now }
     requires lawful { (n : ℕ) × IsLawful n (held trees.now) }
@@ -123,7 +125,7 @@ pub fn got_from(trees: &Trees, receiver: Pid, x: u32, sender: Pid) -> u32
     vectors.got_from(sender)
 }
 
-/// The checkpoint that is used for a stable interval of a process.
+/// Returns the interval of the checkpoint that is used for a stable interval of a process.
 pub fn effective_of(trees: &Trees, pid: Pid, x: u32) -> u32
     requires in_order { AreTrees trees.now }
     requires stable { IsStable (held trees.now) pid x }

@@ -1,10 +1,12 @@
+//! The nearest entry of a tree at or below an interval, and at or above it.
+
 ghost use Rattle.std.specs.Prelude.{◌≡◌, ℕ, MatchOption};
 ghost use Rattle.om_recover.specs.steps.Nearest.{IsNearestTo, IsNearestFrom, HasNoneTo, HasNoneFrom};
 
 use om_interval::Pid;
 use std::collections::BTreeMap;
 
-/// Of a process's entries at or below an interval, the nearest.
+/// Returns the nearest of a process's entries at or below an interval, with its own interval.
 pub fn nearest_to<V>(entries: &BTreeMap<(Pid, u32), V>, pid: Pid, to: u32) -> Option<(u32, &V)>
     ensures { MatchOption result
         (HasNoneTo entries.now.entries pid to)
@@ -25,7 +27,7 @@ pub fn nearest_to<V>(entries: &BTreeMap<(Pid, u32), V>, pid: Pid, to: u32) -> Op
     }
 }
 
-/// Of a process's entries at or above an interval, the nearest.
+/// Returns the nearest of a process's entries at or above an interval, with its own interval.
 pub fn nearest_from<V>(entries: &BTreeMap<(Pid, u32), V>, pid: Pid, from: u32) -> Option<(u32, &V)>
     ensures { MatchOption result
         (HasNoneFrom entries.now.entries pid from)

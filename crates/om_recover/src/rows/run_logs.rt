@@ -1,3 +1,5 @@
+//! The logs of a run without a gap, as numbers in one row.
+
 ghost use Rattle.std.specs.Prelude.{◌≡◌, ◌+◌, ◌<◌, ◌≤◌, ◌↔◌, ◌++◌, ◌∷◌, [], length, take, drop, slice_get, Some, MatchOption, OnOk, OnErr, IsTrue};
 ghost use Rattle.om_recover.specs.steps.Flat.{AreAlike};
 
@@ -32,7 +34,7 @@ impl Model for RunLogs {
 }
 
 impl RunLogs {
-    /// No logs.
+    /// Makes a run of no logs.
     pub fn new(alloc: Global) -> RunLogs
         ensures { result ≡ [] }
     {
@@ -58,7 +60,7 @@ impl RunLogs {
         self.len() == 0
     }
 
-    /// The vectors of the log at a place, if there is one.
+    /// Returns the vectors of the log at a place, if there is one.
     pub fn get(&self, place: usize) -> Option<Lent<'_>>
         ensures { MatchOption result (length self.now ≤ place) (λ vectors. slice_get self.now place ≡ Some vectors) }
     {
@@ -68,7 +70,7 @@ impl RunLogs {
         Some(self.at(place))
     }
 
-    /// The vectors of the log at a place.
+    /// Returns the vectors of the log at a place.
     pub fn at(&self, place: usize) -> Lent<'_>
         requires { place < length self.now }
         ensures { slice_get self.now place ≡ Some result }
@@ -130,7 +132,7 @@ impl RunLogs {
     }
 }
 
-// So many numbers from a place on.
+// Returns `size` numbers from a place on.
 fn part(numbers: &[u32], from: usize, size: usize) -> &[u32]
     requires { from + size ≤ length numbers.now }
     ensures { result.now ≡ take size (drop from numbers.now) }

@@ -1,3 +1,5 @@
+//! Which intervals are stable.
+
 ghost use Rattle.std.specs.Prelude.{◌≡◌, ℕ, false, ◌<◌, ◌≤◌, ◌+◌, Some, IsTrue, MatchOption};
 ghost use Rattle.om_recover.specs.Recoverable.{IsStable};
 ghost use Rattle.om_recover.specs.Climb.{IsLeastStable};
@@ -59,7 +61,7 @@ fn reaches_to(slot: &Option<Newest>, x: u32) -> bool
     }
 }
 
-/// The least stable interval of a process at or above an interval: that one, or the next checkpoint's.
+/// Returns the least stable interval of a process at or above an interval: that one, or the next checkpoint's.
 pub fn least_stable_of(trees: &Trees, pid: Pid, from: u32) -> Option<u32>
     requires { AreIndexed trees.now }
     ensures { TellsLeast (held trees.now) pid from result }

@@ -1,3 +1,5 @@
+//! How a checkpoint is added.
+
 ghost use Rattle.std.specs.Prelude.{◌≡◌, ◌<◌, None, Some, OnOk, OnErr, IsSome, IsTrue, false, length, slice_get, slice_set, ℕ};
 ghost use Rattle.om_recover.specs.steps.Nearest.{at, IsPut};
 ghost use Rattle.om_recover.specs.steps.Bases.{AreBases, AreSameBases, IsNewest, HasNoNewest, IsStored, base_entries, IsShelved, IsTop, newest_of};

@@ -1,3 +1,5 @@
+//! Where the rows stand: checkpoints, and logs in runs and in a tree.
+
 use crate::rows::run_logs::RunLogs;
 use om_interval::{DepVec, Pid};
 use std::collections::BTreeMap;

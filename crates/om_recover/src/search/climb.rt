@@ -1,3 +1,5 @@
+//! Climbs: from a state to the least recoverable one with a process as high as asked.
+
 ghost use Rattle.std.specs.Prelude.{◌≡◌, ◌<◌, ◌≤◌, length, slice_index, slice_set, MatchResult};
 ghost use Rattle.om_interval.specs.Vectors.{IsBelow};
 ghost use Rattle.om_recover.specs.Rows.{IsLawful};
@@ -190,7 +192,7 @@ fn raised_to(state: &DepVec, pid: Pid, x: u32) -> DepVec
     raised
 }
 
-// The greater of two vectors, place by place.
+// Returns the greater of two vectors, place by place.
 fn maximum(one: &DepVec, other: &DepVec) -> DepVec
     requires { length one.now ≡ length other.now }
     ensures { result ≡ maximum_of one.now other.now }
@@ -203,7 +205,7 @@ fn maximum(one: &DepVec, other: &DepVec) -> DepVec
     greater
 }
 
-// A process whose interval is below in the first vector.
+// Returns a process whose interval is below in the first vector.
 fn first_behind(looked: &DepVec, reached: &DepVec) -> Option<Pid>
     requires { IsBelow looked.now reached.now }
     ensures { TellsBehind looked.now reached.now result }
@@ -217,7 +219,8 @@ fn first_behind(looked: &DepVec, reached: &DepVec) -> Option<Pid>
     None
 }
 
-// The state with each process that the vector names beyond it raised to its least stable interval there, or a process that has none.
+// Returns the state with each process that the vector names beyond it raised to its least stable interval there, or a process that
+// has none.
 fn forced<S: Shelf>(shelf: &S, state: &DepVec, vec: &[u32]) -> Result<DepVec, Pid>
     requires { length vec.now ≡ length state.now }
     ensures { MatchResult result (IsForced (S.rows shelf.now) state.now vec.now) (IsBlocked (S.rows shelf.now) state.now vec.now) }

@@ -1,3 +1,5 @@
+//! The climbs that failed, so that none is made again for nothing.
+
 ghost use Rattle.std.specs.Prelude.{◌≡◌, ℕ, ◌<◌, ◌≤◌, ⊤, false, slice_index_or, Option, Some, None, MatchOption};
 ghost use Rattle.om_recover.specs.steps.Memory.{HasPlace, IsKept, IsPartWithin, IsUpTo, IsWithout, part_of};
 ghost use Rattle.om_interval.specs.declared.pid.TheConstants.{MAX_PROCESSES};
@@ -44,7 +46,7 @@ pub struct FailedClimbs {
 }
 
 impl FailedClimbs {
-    /// No memory of any process.
+    /// Makes a memory of no failed climb of any process.
     pub fn new() -> FailedClimbs
         ensures { (p : ℕ) → slice_index_or result.places p None ≡ None }
     {

@@ -1,3 +1,5 @@
+//! Passes over all processes, until none can be raised.
+
 ghost use Rattle.std.specs.Prelude.{◌≡◌, ℕ, ◌+◌, ◌<◌, ◌≤◌, ◌⊎◌, length, slice_index, MatchOption};
 ghost use Rattle.om_interval.specs.Vectors.{IsBelow};
 ghost use Rattle.om_recover.specs.Rows.{IsLawful};
@@ -13,7 +15,8 @@ use crate::shelf::Shelf;
 use crate::work::Work;
 use om_interval::{DepVec, Pid};
 
-/// The greatest recoverable state, where each is within the given one or has the process at the interval or above.
+/// Returns the greatest recoverable state, where each is within the given one or has the process at the interval
+/// or above.
 pub fn greatest_from<S: Shelf>(
     shelf: &S,
     state: &DepVec,
@@ -49,7 +52,7 @@ pub fn greatest_from<S: Shelf>(
     }
 }
 
-// One attempt for each process, at its least stable interval above the state.
+// Makes one attempt for each process, at its least stable interval above the state.
 fn pass<S: Shelf>(shelf: &S, state: &DepVec, memories: &mut FailedClimbs, work: &mut Work) -> DepVec
     requires lawful { IsLawful (length state.now) (S.rows shelf.now) }
     requires state { IsRecoverable (length state.now) (S.rows shelf.now) state.now }
@@ -71,7 +74,7 @@ fn pass<S: Shelf>(shelf: &S, state: &DepVec, memories: &mut FailedClimbs, work: 
     higher
 }
 
-// The state after an attempt at the process's least stable interval above it, if there is one.
+// Returns the state after an attempt at the process's least stable interval above it, if there is one.
 fn raised_at<S: Shelf>(
     shelf: &S,
     state: &DepVec,
@@ -98,7 +101,7 @@ fn raised_at<S: Shelf>(
     }
 }
 
-// The least stable interval of a process above its place of the state.
+// Returns the least stable interval of a process above its place of the state.
 fn least_above<S: Shelf>(shelf: &S, state: &DepVec, pid: Pid) -> Option<u32>
     requires lawful { IsLawful (length state.now) (S.rows shelf.now) }
     requires process { pid < length state.now }

@@ -1,3 +1,5 @@
+//! The greatest recoverable state once a row is added.
+
 ghost use Rattle.std.specs.Prelude.{◌≡◌, ℕ, ◌<◌, ◌≤◌, length};
 ghost use Rattle.om_recover.specs.Recoverable.{IsGreatest};
 ghost use Rattle.om_recover.specs.steps.Indexed.{IsRaisable, IsCountedFrom};
@@ -10,7 +12,8 @@ use crate::shelf::Shelf;
 use crate::work::Work;
 use om_interval::DepVec;
 
-/// The greatest recoverable state after a row was added, of which is known whether it made its interval stable.
+/// Returns the greatest recoverable state after a row was added, of which is known whether it made its interval
+/// stable.
 pub fn raised_by<S: Shelf>(
     after: &S,
     row: &Row,

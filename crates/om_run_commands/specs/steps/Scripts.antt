@@ -31,7 +31,7 @@ abbrev pub IsErrorOfRawCluster : List ℕ → Cluster → CommandError → Type 
 IsErrorOfRawCluster name cluster errors.NoSuchProcess = place_of name cluster.processes ≡ None
 IsErrorOfRawCluster name cluster error = IsErrorOfCluster cluster error
 
--- the same for a script
+-- the errors are those of a run of the cluster of a script
 abbrev pub IsErrorOfScript : ClusterFile → CommandError → Type 0
 IsErrorOfScript script error = IsErrorOfCluster script.cluster error
 

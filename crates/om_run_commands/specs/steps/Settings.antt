@@ -9,10 +9,10 @@ use Rattle.om_run_commands.specs.ClusterScript.{ClusterFile, closed, count_in}
 abbrev pub flush_line : ClusterFile → List (List ℕ) → Result ClusterFile LineError
 flush_line script words = count_in number_of words >>= λ k. Ok (closed (record script { flush = k }))
 
--- `checkpoint K`
+-- `checkpoint K`, by the words behind its first
 abbrev pub checkpoint_line : ClusterFile → List (List ℕ) → Result ClusterFile LineError
 checkpoint_line script words = count_in number_of words >>= λ k. Ok (closed (record script { checkpoint = k }))
 
--- `fuel K`
+-- `fuel K`, by the words behind its first
 abbrev pub fuel_line : ClusterFile → List (List ℕ) → Result ClusterFile LineError
 fuel_line script words = count_in long_number_of words >>= λ k. Ok (closed (record script { fuel = k }))

@@ -53,6 +53,17 @@ const NOTHING: Batch = Batch {
     prune_to: None,
 };
 
+// Once the whole one is written: nine receipts, and five of which the third is there.
+const NINE: Batch = Batch {
+    receipts: (7, 9),
+    ..NOTHING
+};
+
+const THIRD_IS_TAKEN: Batch = Batch {
+    receipts: (1, 5),
+    ..NOTHING
+};
+
 fn write<S: Ledger>(
     rt: &impl Abort,
     alloc: Global,
@@ -146,12 +157,23 @@ fn check_whole<S: Ledger>(rt: &impl Abort, alloc: Global, store: &mut S) {
     check(rt, alloc, store, &[3, 4, 5, 6], &[2, 6]);
 }
 
+// A batch whose third receipt is there leaves all as it was; one of nine is written.
+fn check_nine<S: Ledger>(rt: &impl Abort, alloc: Global, store: &mut S) {
+    let refused = write(rt, alloc, store, THIRD_IS_TAKEN);
+    assert_eq!(rt; refused, Err(StoreError::Present));
+    check(rt, alloc, store, &[3, 4, 5, 6], &[2, 6]);
+    write_well(rt, alloc, store, NINE);
+    let receipts = [3, 4, 5, 6, 7, 8, 9, 10, 11, 12, 13, 14, 15];
+    check(rt, alloc, store, &receipts, &[2, 6]);
+}
+
 // Then the others are written.
 fn check_others<S: Ledger>(rt: &impl Abort, alloc: Global, store: &mut S) {
     write_well(rt, alloc, store, NOTHING);
     check(rt, alloc, store, &[3, 4, 5, 6], &[2, 6]);
+    check_nine(rt, alloc, store);
     write_well(rt, alloc, store, PRUNED);
-    check(rt, alloc, store, &[], &[9]);
+    check(rt, alloc, store, &[10, 11, 12, 13, 14, 15], &[9]);
     check_tables(rt, alloc, store, &[0, 1, 2, 3], &[0, 1]);
 }
 

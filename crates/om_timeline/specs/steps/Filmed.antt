@@ -53,7 +53,7 @@ pub record IsSeat (p n : ℕ) (c : CoreState) : Type 0 where
 abbrev pub HasSeat : ℕ → ℕ → WorldState → Type 0
 HasSeat p n w = (c : CoreState) → slice_get w.cores p ≡ Some (Some c) → IsSeat p n c
 
--- and its machine is this
+-- the machine of the process, where it has a core, is this
 abbrev pub HasMachine : ℕ → WorldState → State → Type 0
 HasMachine p w m = (c : CoreState) → slice_get w.cores p ≡ Some (Some c) → c.now.machine ≡ m
 
@@ -83,7 +83,7 @@ pub record IsFilmed (t : TapeState) (last : WorldState) : Type 0 where
   pub answers : List Answer
   pub filmed : Filmed t.own t.n t.first t.begun (take (length t.deeds) t.events) answers t.deeds last
 
--- and the world is one that can be played on
+-- the tape is filmed up to this world, which can be played on
 pub record GoesOn (t : TapeState) (w : WorldState) : Type 0 where
   pub filmed : IsFilmed t w
   pub known : IsKnown w
@@ -116,7 +116,7 @@ pub record IsRead (p n : ℕ) (e : Event) (answer : Answer) (deed : Deed) (w : W
   pub is_kind : IsKind p answer e kind
   pub is_deed : IsDeed deed p w kind
 
--- and no run has begun behind it
+-- the deed of an event that was played, and behind which no run has begun
 pub record IsPlayedDeed (p n : ℕ) (old : WorldState) (e : Event) (deed : Deed) (new : PlayerState) : Type 0 where
   pub over : new.begun ≡ None
   pub next : IsNextDeed p n old e deed new.before

@@ -1,4 +1,4 @@
--- Of which kind an event was for one process, by its answer.
+-- The kind that an event was of for one process, by its answer.
 use Rattle.std.specs.Prelude.{◌≡◌, ℕ, if◌then◌else◌, nat_eq}
 use Rattle.om_process.specs.declared.accept.Accept.TheVariants.{Taken}
 use Rattle.om_process.specs.declared.status.Status.{Status}

@@ -22,7 +22,7 @@ at_machine c m = with_now c (record c.now { machine = m })
 abbrev pub GoesAlone : ℕ → ℕ → State → State → Type 0
 GoesAlone own n m next = (counts : List ℕ) → next_move own n m counts ≡ Goes next
 
--- and by so many
+-- the process comes from the one machine to the other by so many such turns
 abbrev pub GoesOn : ℕ → ℕ → ℕ → State → State → Type 0
 GoesOn own n zero m next = next ≡ m
 GoesOn own n (suc k) m next = (mid : State) × GoesAlone own n m mid × GoesOn own n k mid next

@@ -37,7 +37,7 @@ fn pause_of<R: Wait + Clock>(
 }
 
 impl<'a, K: Naming> Worker<'a, K> {
-    // A turn in which nothing happens to a process that is up. Where all that it keeps was resent, and put, the board knows
+    // Takes a turn in which nothing happens to a process that is up. Where all that it keeps was resent, and put, the board knows
     // while it sleeps that it waits.
     pub(super) fn rest<R: Wait + Clock>(&mut self, rt: &R) -> Pause
         ensures same { self.new.links ≡ self.old.links }
@@ -96,7 +96,7 @@ impl<'a, K: Naming> Worker<'a, K> {
         passed.resends && has_put_all
     }
 
-    // A turn in which nothing happens to a process that is in, or down.
+    // Takes a turn in which nothing happens to a process that is in, or down.
     pub(crate) fn doze<R: Wait + Clock>(&mut self, rt: &R)
         ensures same { self.new.links ≡ self.old.links }
     {

@@ -19,7 +19,7 @@ use std::alloc::Global;
 use std::sync::Wait;
 use std::time::Clock;
 
-// The process after a finished round: as it was, or rolled back.
+// Returns the process after a finished round: as it was, or rolled back.
 #[inline(never)]
 fn after_round<'a, J: Series, S: Stable>(
     alloc: Global,

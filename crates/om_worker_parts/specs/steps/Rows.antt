@@ -12,7 +12,7 @@ lines_put puts = map (λ p. p.line) puts
 abbrev pub lines_taken : List Takings → List Line
 lines_taken takes = map (λ t. t.line) takes
 
--- the same of each process
+-- the inboxes of the passes to put of each process
 abbrev pub all_put : List Ends → List (List Line)
 all_put ends = map (λ e. lines_put e.puts.items) ends
 

@@ -1,4 +1,4 @@
-use Rattle.std.specs.Prelude.{length, slice_index}
+use Rattle.std.specs.Prelude.{length}
 use Rattle.om_process.specs.Claims.{Makes}
 use Rattle.om_world.specs.Live.{program_at}
 use Rattle.om_restart_laws.proofs.Closing.{cut_legal}
@@ -10,11 +10,11 @@ pub returns-clause-legal : goal.returns-clause-legal
 returns-clause-legal c = cut_legal
 
 pub returns-clause-kept : goal.returns-clause-kept
-returns-clause-kept c = λ programs live held state. cut_true programs live held (slice_index state)
+returns-clause-kept c = λ programs live held state. cut_true programs live held state
 
 pub returns-clause-stands : goal.returns-clause-stands
-returns-clause-stands c = λ programs live held state. replay_along programs live held (slice_index state)
+returns-clause-stands c = λ programs live held state. replay_along programs live held state
 
 pub returns-clause-said : goal.returns-clause-said
 returns-clause-said c = λ programs live state p number output made le.
-    cut_fact (slice_index state) live p output.interval (Makes (program_at programs p) p (length programs) (length programs) number output) le made
+    cut_fact state live p output.interval (Makes (program_at programs p) p (length programs) (length programs) number output) le made

@@ -41,7 +41,7 @@ returns-clause-report g c =
     let whole = subst (λ (v : Vec Status Global). AreWholeOver is_clean images v.items released.items parts.stores.items) (sym brought.ensures.statuses)
     (subst (λ os. AreWholeOver is_clean images parts.statuses.items os parts.stores.items) (sym outputs) c.requires.parts.whole) in
     whole_report is_clean k.OverClean k.programs k.cell.n images released brought.result.0 c.in-Ok.front parts.stores.items
-    c.requires.programs c.requires.images c.requires.clean c.in-Ok.ensures.released c.in-Ok.ensures.made c.in-Ok.ensures.last
+    c.requires.named.run c.requires.named.many c.requires.named.clean c.in-Ok.ensures.released c.in-Ok.ensures.made c.in-Ok.ensures.last
     (ap length outputs ∙ length-map parts.harvests.items (λ (h : HarvestState). h.outputs) ∙ c.requires.parts.harvests)
     (ap (λ (v : Vec Status Global). length v.items) brought.ensures.statuses ∙ c.requires.parts.statuses)
     (subst (λ (v : Vec Status Global). All IsEnd v.items) (sym brought.ensures.statuses) c.requires.parts.ended)

@@ -16,7 +16,7 @@ returns-clause-report g c =
     let are = subst (λ r. IfOk r (AreParts is_clean images lines)) c.in-Ok.is c.requires.parts in
     let told = c.into_report.ensures in
     followed_report is_clean k.OverClean k.programs k.cell.n images lines c.in-Ok.parts brought.result.1 brought.result.0 c.into_report.result.0
-    c.requires.programs c.requires.images c.requires.clean are brought.ensures.harvests brought.ensures.statuses
+    c.requires.named.run c.requires.named.many c.requires.named.clean are brought.ensures.harvests brought.ensures.statuses
     told.released told.made (told.brought (harvested brought.result.1.items) c.complete-following.ensures.brought) told.processes told.statuses
 
 pub returns-clause-told : goal.returns-clause-told

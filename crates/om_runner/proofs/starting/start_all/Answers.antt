@@ -12,7 +12,7 @@ use Rattle.om_runner.proofs.starting.start_all.Goals as goal
 
 pub loop-one-init : goal.loop-one-init
 loop-one-init g c =
-    let many = c.requires.wired.many in (
+    let many = c.requires.ready.wired.many in (
       search rules,
       search rules,
       search rules,
@@ -21,7 +21,7 @@ loop-one-init g c =
           let less : k < length c.args.ends.items = search rules in
           let at : k ≡ vec_len c.args.handles + k = (let z = c.requires.none in omega arith) in
           subst (λ i. HasEnds g.K.Naming.cell.n c.args.cluster.now.inboxes.now i (get_or (into_iter_items c.into_iter-one-iterator.result) k e)) at
-          (subst (λ es. HasEnds g.K.Naming.cell.n c.args.cluster.now.inboxes.now k (get_or es k e)) (sym same) (ends_at _ _ _ c.requires.wired k e less)),
+          (subst (λ es. HasEnds g.K.Naming.cell.n c.args.cluster.now.inboxes.now k (get_or es k e)) (sym same) (ends_at _ _ _ c.requires.ready.wired k e less)),
       λ k a h lt. absurd (let z = c.requires.none in omega arith),
     )
 
@@ -30,14 +30,14 @@ new-links-requires-clause-puts g c =
     let first : get_or (into_iter_items c.loop-one.one-iterator) 0 c.in-Some.one ≡ c.in-Some.one = search rules in
     let lt : 0 < into_iter_len c.loop-one.one-iterator = search rules in
     let have = subst (HasEnds g.K.Naming.cell.n c.args.cluster.now.inboxes.now (vec_len c.loop-one.handles + 0)) first (c.loop-one.invariant.3 0 c.in-Some.one lt) in
-    have.put ∙ sym c.requires.wired.network.senders
+    have.put ∙ sym c.requires.ready.wired.network.senders
 
 pub new-links-requires-clause-takes : goal.new-links-requires-clause-takes
 new-links-requires-clause-takes g c =
     let first : get_or (into_iter_items c.loop-one.one-iterator) 0 c.in-Some.one ≡ c.in-Some.one = search rules in
     let lt : 0 < into_iter_len c.loop-one.one-iterator = search rules in
     let have = subst (HasEnds g.K.Naming.cell.n c.args.cluster.now.inboxes.now (vec_len c.loop-one.handles + 0)) first (c.loop-one.invariant.3 0 c.in-Some.one lt) in
-    have.take ∙ sym c.requires.wired.network.senders
+    have.take ∙ sym c.requires.ready.wired.network.senders
 
 pub new-links-requires-clause-putting : goal.new-links-requires-clause-putting
 new-links-requires-clause-putting g c =
@@ -61,7 +61,7 @@ start_apart-requires-clause-program g c = λ lifetimes outlive.
     let within : own < length images = search rules in
     let at : slice_get images own ≡ Some image = slice_get_read images (length images) own image refl within c.index-image.ensures in
     let here : c.new-links.result.own ≡ own = c.new-links.ensures.own ∙ c.at.ensures in
-    subst (λ ps. slice_get ps c.new-links.result.own ≡ Some (program_of image)) (sym c.requires.programs)
+    subst (λ ps. slice_get ps c.new-links.result.own ≡ Some (program_of image)) (sym c.requires.named.run)
     (subst (λ i. slice_get (map program_of images) i ≡ Some (program_of image)) (sym here) (map_get program_of images own image at))
 
 pub loop-one-preserved : goal.loop-one-preserved

@@ -1,8 +1,7 @@
 use Rattle.std.proofs.Common.{◌∙◌, ap}
-use Rattle.std.specs.Prelude.{slice_index}
 use Rattle.om_world.specs.Live.{cut_list}
 use Rattle.om_world.proofs.restart.begin_live.Goals as goal
 
 pub returns-clause-live : goal.returns-clause-live
 returns-clause-live c =
-    c.cut.ensures ∙ ap (cut_list (λ p. slice_index c.args.state.now p)) (c.before-2.ensures ∙ ap (λ s. s.before) c.restart.ensures)
+    c.cut.ensures ∙ ap (cut_list c.args.state.now) (c.before-2.ensures ∙ ap (λ s. s.before) c.restart.ensures)

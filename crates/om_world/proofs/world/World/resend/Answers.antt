@@ -40,7 +40,7 @@ frames_past-requires g c =
 pub returns-in_err-frames-clause-happened : goal.returns-in_err-frames-clause-happened
 returns-in_err-frames-clause-happened g c =
     let is : c.from_residual-in_err-frames.result ≡ Err refusals.Memory = search rules in
-    subst (λ r. Happened c.args.self.now (Event.Resend c.args.p) (answered r) c.args.self.now) (sym is) (c.in_ok-is_up.ensures.up, refl)
+    subst (λ r. Happened c.args.self.now (Event.Resend c.args.p) (answered r) c.args.self.now) (sym is) (c.in_ok-is_up.ensures.up, (refl, refl))
 
 pub returns-in_err-frames-clause-keeps : goal.returns-in_err-frames-clause-keeps
 returns-in_err-frames-clause-keeps g c = keeps_by _ _ refl refl refl
