@@ -1,5 +1,5 @@
 -- What a follower is told.
-use Rattle.std.proofs.Common.{◌≡◌, ◌≢◌, ◌⊎◌, inl, inr, ℕ, zero, suc, ◌+◌, ◌<◌, ◌≤◌, ◌==◌, List, [], ◌∷◌, ◌++◌, Option, None, Some, cond, false, refl, sym, ap, ◌∙◌, subst, arith, append-nil, append_assoc, get_or, length, length-append, map, set}
+use Rattle.std.proofs.Common.{◌≡◌, ◌≢◌, ◌⊎◌, inl, inr, ℕ, zero, suc, ◌+◌, ◌<◌, ◌≤◌, ◌==◌, List, [], ◌∷◌, ◌++◌, Option, Some, cond, false, refl, sym, ap, ◌∙◌, subst, arith, append-nil, append_assoc, get_or, length, length-append, map, set}
 use Rattle.std.specs.Prelude.{Vec, slice_get, slice_index}
 use Rattle.std.specs.declared.alloc.Global.{Global}
 use Rattle.std.proofs.Math.Seq.{map-set_same}

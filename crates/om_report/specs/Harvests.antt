@@ -1,5 +1,5 @@
 -- What a process leaves when its run is over.
-use Rattle.std.specs.Prelude.{◌≡◌, ℕ, ◌≤◌, List, Some, Vec, length, map, slice_get, slice_index}
+use Rattle.std.specs.Prelude.{◌≡◌, ℕ, List, Some, Vec, map, slice_get, slice_index}
 use Rattle.std.specs.declared.alloc.Global.{Global}
 use mathlib.Core.List.{IsPrefix}
 use Rattle.om_board.specs.Fronts.{EndsWith, IsPosted}

@@ -204,7 +204,8 @@ fn tell_rest<F: Follower>(follower: &mut F, lanes: &mut Vec<FollowedOutputs>) ->
     ensures all { IsTrue result → AreTold lanes.new.items }
 {
     for p in 0..lanes.len() {
-        if !tell_below(follower, &mut lanes[p], Pid::at(p), usize::MAX) {
+        let copied = lanes[p].copied;
+        if !tell_below(follower, &mut lanes[p], Pid::at(p), copied) {
             return false;
         }
     }

@@ -1,9 +1,6 @@
-use Rattle.std.proofs.Common.{◌≡◌, Some, sym, subst}
-use Rattle.std.specs.Prelude.{Vec, slice_get, slice_index}
-use Rattle.std.specs.declared.alloc.Global.{Global}
-use Rattle.om_manager.specs.declared.output_log.Output.{Output}
+use Rattle.std.proofs.Common.{sym, subst}
+use Rattle.std.specs.Prelude.{slice_index}
 use Rattle.om_report.specs.Released.{AreAllMade, AreAllReleased}
-use Rattle.om_report.specs.Following.{AreAllCopied}
 use Rattle.om_report.proofs.FollowLemmas.{brought_more, have_none_more}
 use Rattle.om_report.proofs.ReleasedLemmas.{numbered_of}
 use Rattle.om_report.proofs.following.add_harvests.Goals as goal

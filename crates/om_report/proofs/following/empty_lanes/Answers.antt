@@ -1,4 +1,4 @@
-use Rattle.std.proofs.Common.{rules, subst, sym}
+use Rattle.std.proofs.Common.{rules, subst}
 use Rattle.om_report.proofs.FollowLemmas.{empty_next}
 use Rattle.om_report.specs.Following.{AreEmpty}
 use Rattle.om_report.proofs.following.empty_lanes.Goals as goal

@@ -1,6 +1,5 @@
-use Rattle.std.proofs.Common.{◌≡◌, ◌+◌, ◌∷◌, [], arith, length, refl, rules}
-use Rattle.std.specs.VecDeque.{deque_len}
-use Rattle.om_report.proofs.FollowLemmas.{none_of, told_next, told_none, told_same}
+use Rattle.std.proofs.Common.{refl, rules}
+use Rattle.om_report.proofs.FollowLemmas.{told_next, told_none}
 use Rattle.om_report.proofs.following.tell_below.Goals as goal
 
 pub loop-init : goal.loop-init

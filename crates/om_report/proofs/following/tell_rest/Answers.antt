@@ -1,7 +1,8 @@
-use Rattle.std.proofs.Common.{◌∙◌, Some, length, refl, rules, arith, subst}
-use Rattle.std.proofs.lemmas.Option.{slice_get_read, slice_get_within}
+use Rattle.std.proofs.Common.{◌≤◌, ◌∙◌, Some, ap, length, refl, rules, arith, subst, sym}
+use Rattle.std.proofs.lemmas.Option.{same_Some, slice_get_read, slice_get_within}
 use Rattle.std.specs.Prelude.{◌≡◌, slice_get}
 use Rattle.om_report.proofs.FollowLemmas.{copied_where, ends_next, have_none, have_then, told_where}
+use Rattle.om_report.specs.declared.followed_outputs.FollowedOutputs.{FollowedOutputs}
 use Rattle.om_report.specs.steps.Lanes.{HasTold}
 use Rattle.om_report.proofs.following.tell_rest.Goals as goal
 
@@ -29,13 +30,16 @@ loop-p-preserved g c =
     let old = c.index_mut.result.now in
     let new = c.tell_below.new.lane in
     let at : slice_get lanes p ≡ Some old = slice_get_read lanes (length lanes) p old refl (search rules) c.index_mut.ensures.value in
+    let read = c.index.result.now in
+    let there : slice_get lanes p ≡ Some read = slice_get_read lanes (length lanes) p read refl (search rules) c.index.ensures in
+    let all : old.copied ≤ read.copied = (let same = ap (λ (l : FollowedOutputs). l.copied) (same_Some old read (sym at ∙ there)) in omega arith) in
     let has = subst (λ k. HasTold g.F.Follower.Tells k old c.loop-p.follower new c.tell_below.new.follower) c.at.ensures (c.tell_below.ensures.told (search rules)) in
     record {
       many = search rules;
       copied = copied_where lanes p old new at c.tell_below.ensures.copied ∙ c.loop-p.invariant.copied;
       told = have_then g.F.Follower.Tells c.args.lanes.now.items lanes _ c.args.follower.now c.loop-p.follower c.tell_below.new.follower c.loop-p.invariant.told
           (told_where g.F.Follower.Tells lanes p old new c.loop-p.follower c.tell_below.new.follower at has);
-      ends = ends_next lanes p old new at c.loop-p.invariant.ends (c.tell_below.ensures.all (search rules) (search rules));
+      ends = ends_next lanes p old new at c.loop-p.invariant.ends (c.tell_below.ensures.all (search rules) all);
     }
 
 pub returns-clause-all : goal.returns-clause-all
