@@ -15,7 +15,6 @@ mod resting;
 mod rounds;
 mod storing;
 
-use crate::links::{Links, Taken};
 use om_board::{Naming, Pass, Shared};
 use om_interval::Pid;
 use om_node::{Due, Kept, Node, WorkerFault};
@@ -26,8 +25,8 @@ use om_restart::Found;
 use om_stable::{Ledger, Stable};
 use om_tickets::Series;
 use om_worker_parts::{
-    Barrier, Config, Ends, Idle, ManagerLink, ManagerPhase, Pause, SpinPolicy, TurnOutcome,
-    WorkerState,
+    Barrier, Config, Ends, Idle, Links, ManagerLink, ManagerPhase, Pause, SpinPolicy, Taken,
+    TurnOutcome, WorkerState,
 };
 use std::alloc::Global;
 use std::sync::Wait;
@@ -546,7 +545,7 @@ impl<'a, K: Naming> Worker<'a, K> {
     ) -> Result<TurnOutcome, WorkerFault>
         ensures same { self.new.links ≡ self.old.links }
         ensures member { node.new.member ≡ node.old.member }
-        ensures offered { OnOk result (IsOffered node.old.core taken.now.message node.new.core.now) }
+        ensures offered { OnOk result (IsOffered node.old.core taken.now node.new.core.now) }
     {
         let message = taken.message();
         let answer = node.accept(alloc, message);

@@ -11,7 +11,6 @@ ghost use Rattle.om_node.specs.Nodes.{AreAlwaysClean};
 
 use crate::finished::Finished;
 use crate::ground::{Cluster, stop_all};
-use crate::links::Links;
 use crate::taking_up::{open_fault, take_up};
 use crate::turns::take_turns;
 use crate::worker::Worker;
@@ -22,7 +21,7 @@ use om_process::Image;
 use om_report::RunFault;
 use om_stable::Stable;
 use om_tickets::Series;
-use om_worker_parts::{Barrier, Gate, Opener, WorkerState, load_fault};
+use om_worker_parts::{Barrier, Gate, Links, Opener, WorkerState, load_fault};
 use std::alloc::{AllocError, Global};
 use std::sync::Wait;
 use std::thread;

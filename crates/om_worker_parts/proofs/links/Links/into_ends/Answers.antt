@@ -1,8 +1,8 @@
 use Rattle.std.proofs.Common.{subst}
 use Rattle.om_worker_parts.specs.declared.network.Ends.{Ends}
-use Rattle.om_worker.specs.Links.{LinksState}
+use Rattle.om_worker_parts.specs.Links.{LinksState}
 use Rattle.om_worker_parts.specs.Wiring.{HasEnds}
-use Rattle.om_worker.proofs.links.Links.into_ends.Goals as goal
+use Rattle.om_worker_parts.proofs.links.Links.into_ends.Goals as goal
 
 pub returns : goal.returns
 returns c =

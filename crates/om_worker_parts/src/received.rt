@@ -13,8 +13,8 @@ pub struct Received {
 }
 
 impl Received {
-    // Makes the counts of a process at its start, among `n`.
-    pub(crate) fn new(alloc: Global, n: usize) -> Result<Received, AllocError> {
+    /// Makes the counts of a process at its start, among `n`.
+    pub fn new(alloc: Global, n: usize) -> Result<Received, AllocError> {
         let mut counts = Vec::with_capacity(alloc, n)?;
         for _ in 0..n {
             counts.push(AtomicU32::new(0))?;

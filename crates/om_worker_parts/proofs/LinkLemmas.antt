@@ -11,7 +11,7 @@ use Rattle.om_board.specs.Inboxes.{Line, Traffic, Takings, MatchPut, MatchTake}
 use Rattle.om_board.specs.declared.inbox.PutAnswer.{PutAnswer}
 use Rattle.om_board.specs.declared.inbox.PutAnswer.TheVariants.{Put, Full, Gone}
 use Rattle.om_board.proofs.ListLemmas.{none_in}
-use Rattle.om_worker.specs.Links.{AreLinks, LinksState}
+use Rattle.om_worker_parts.specs.Links.{AreLinks, LinksState}
 use Rattle.om_worker_parts.specs.Network.{IsAt, Lines}
 
 -- ---- lists

@@ -1,8 +1,8 @@
 use Rattle.std.proofs.Common.{rules, ap, sym, ◌∙◌, subst, ◌<◌, get_or, length}
-use Rattle.om_worker.specs.Links.{LinksState}
-use Rattle.om_worker.proofs.LinkLemmas.{line_to, put_at, put_line, put_links, row_long, frame_goes}
+use Rattle.om_worker_parts.specs.Links.{LinksState}
+use Rattle.om_worker_parts.proofs.LinkLemmas.{line_to, put_at, put_line, put_links, row_long, frame_goes}
 use Rattle.om_worker_parts.proofs.WireLemmas.{same_line}
-use Rattle.om_worker.proofs.links.Links.put_one.Goals as goal
+use Rattle.om_worker_parts.proofs.links.Links.put_one.Goals as goal
 
 pub index-inbox-requires : goal.index-inbox-requires
 index-inbox-requires g c =

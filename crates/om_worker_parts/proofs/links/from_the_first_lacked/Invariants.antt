@@ -1,5 +1,5 @@
 use Rattle.std.proofs.Common.{◌≡◌, ℕ, ◌<◌, ◌≤◌, min, slice_index, slice_index_or, true, false}
-use Rattle.om_worker.proofs.links.from_the_first_lacked.Given as goal
+use Rattle.om_worker_parts.proofs.links.from_the_first_lacked.Given as goal
 
 abbrev pub invariant-loop-to : goal.invariant-loop-to
 invariant-loop-to l =

@@ -1,13 +1,13 @@
 //! The ends of inboxes that one process has.
 
 ghost use Rattle.std.specs.Prelude.{◌≡◌, ◌<◌, ◌≤◌, ◌+◌, ℕ, false, length, min, slice_index, slice_index_or, true};
-ghost use Rattle.std.specs.Option.{option_map};
 ghost use Rattle.om_board.specs.Inboxes.{MatchTake};
 ghost use Rattle.om_interval.specs.declared.pid.TheConstants.{MAX_PROCESSES};
 ghost use Rattle.om_process.specs.Core.{cluster_size};
 ghost use Rattle.om_worker_parts.specs.Network.{ArePuts, AreTakes, IsNetwork};
 ghost use Rattle.om_worker_parts.specs.Wiring.{HasEnds};
 
+use crate::network::Ends;
 use crate::received::Received;
 use om_board::{
     Bell, CAPACITY, Inbox, PutAnswer, PutPass, SenderSet, SpinOutcome, TakePass, ring_all,
@@ -15,7 +15,6 @@ use om_board::{
 use om_format::Message;
 use om_interval::{MAX_PROCESSES, Pid};
 use om_process::ProcCore;
-use om_worker_parts::Ends;
 use std::alloc::{AllocError, Global};
 use std::marker::Model;
 use std::sync::Wait;
@@ -30,16 +29,24 @@ const NAP: u64 = 100;
 
 const NAPS: u32 = 10;
 
-// A message as it was taken from an inbox: `taken_from` alone makes one.
+/// Holds a message as it was taken from an inbox: `take` alone gives one.
 #[derive(Drop)]
-pub(crate) struct Taken {
+pub struct Taken {
     message: Message,
 }
 
+impl Model for Taken {
+    ghost use Rattle.om_format.specs.declared.message.Message.{Message};
+
+    ghost Value = { Message };
+
+    ghost view = { λ t. t.message };
+}
+
 impl Taken {
-    // Returns the message that was taken.
-    pub(crate) fn message(&self) -> &Message
-        ensures { result.now ≡ self.now.message }
+    /// Returns the message that was taken.
+    pub fn message(&self) -> &Message
+        ensures { result.now ≡ self.now }
     {
         &self.message
     }
@@ -48,7 +55,7 @@ impl Taken {
 // Takes the next message from an inbox, if there is one.
 fn taken_from<R: Wait>(rt: &R, inbox: &Inbox, pass: &mut TakePass) -> Option<Taken>
     requires { pass.old.line ≡ inbox.now }
-    ensures { MatchTake (option_map (λ t. t.message) result) pass.old pass.new }
+    ensures { MatchTake result pass.old pass.new }
 {
     match inbox.take(rt, pass) {
         Some(message) => Some(Taken { message }),
@@ -97,7 +104,7 @@ pub struct Links<'a> {
 }
 
 impl<'a> Model for Links<'a> {
-    ghost use Rattle.om_worker.specs.Links.{AreLinks, LinksState};
+    ghost use Rattle.om_worker_parts.specs.Links.{AreLinks, LinksState};
 
     ghost Value = { LinksState };
 
@@ -196,45 +203,45 @@ impl<'a> Links<'a> {
         self.inboxes
     }
 
-    // Returns how many messages the process has put.
-    pub(crate) fn put(&self) -> u64 {
+    /// Returns how many messages the process has put.
+    pub fn put(&self) -> u64 {
         self.put
     }
 
-    // Returns how many messages it has taken.
-    pub(crate) fn taken(&self) -> u64 {
+    /// Returns how many messages it has taken.
+    pub fn taken(&self) -> u64 {
         self.taken
     }
 
-    // Returns whether all messages that are kept were put, when they were put last.
-    pub(crate) fn has_put_all(&self) -> bool {
+    /// Returns whether all messages that are kept were put, when they were put last.
+    pub fn has_put_all(&self) -> bool {
         !self.left.iter().any(|left| *left)
     }
 
-    // Returns whether something is to be put though the process sends nothing.
-    pub(crate) fn is_behind(&self) -> bool {
+    /// Returns whether something is to be put though the process sends nothing.
+    pub fn is_behind(&self) -> bool {
         self.is_behind
     }
 
-    // Yields until its worker is woken, for a while.
-    pub(crate) fn look<R: Clock>(&self, rt: &R) -> SpinOutcome {
+    /// Yields until its worker is woken, for a while.
+    pub fn look<R: Clock>(&self, rt: &R) -> SpinOutcome {
         match self.bells.get(self.own.index()) {
             Some(bell) => bell.look(rt),
             None => SpinOutcome::Rung,
         }
     }
 
-    // Sleeps until its worker is woken, for so many milliseconds at most, and says whether it was woken.
-    pub(crate) fn sleep<R: Wait>(&self, rt: &R, millis: u64) -> bool {
+    /// Sleeps until its worker is woken, for so many milliseconds at most, and says whether it was woken.
+    pub fn sleep<R: Wait>(&self, rt: &R, millis: u64) -> bool {
         match self.bells.get(self.own.index()) {
             Some(bell) => bell.sleep(rt, Duration::from_millis(millis)),
             None => true,
         }
     }
 
-    // Sleeps until its worker is woken, for a millisecond at most, in naps. Each that ends has the system choose anew who is to run,
-    // where another worker was woken and waits until a busy program's time slice ends.
-    pub(crate) fn nap<R: Wait>(&self, rt: &R) -> bool {
+    /// Sleeps until its worker is woken, for a millisecond at most, in naps. Each that ends has the system choose anew who is to run,
+    /// where another worker was woken and waits until a busy program's time slice ends.
+    pub fn nap<R: Wait>(&self, rt: &R) -> bool {
         match self.bells.get(self.own.index()) {
             Some(bell) => bell.nap(rt, Duration::from_micros(NAP), NAPS),
             None => true,
@@ -255,31 +262,31 @@ impl<'a> Links<'a> {
         }
     }
 
-    // Wakes all workers.
-    pub(crate) fn wake_all(&self) {
+    /// Wakes all workers.
+    pub fn wake_all(&self) {
         ring_all(self.bells);
     }
 
-    // Gives the passes of the process up.
-    pub(crate) fn into_ends(self) -> Ends
+    /// Gives the passes of the process up.
+    pub fn into_ends(self) -> Ends
         ensures { HasEnds self.entry.n self.entry.lines self.entry.own result }
     {
         let Links { puts, takes, .. } = self;
         Ends { puts, takes }
     }
 
-    // Has all messages that are kept put once more.
-    pub(crate) fn resend(&mut self)
+    /// Has all messages that are kept put once more.
+    pub fn resend(&mut self)
         ensures { self.new ≡ self.old }
     {
         self.next = [0; MAX_PROCESSES];
         self.is_behind = true;
     }
 
-    // Has the messages that are kept put once more, to each process to which all of them were put: from the first on that it has not
-    // received, as it stands. The others it would refuse as received before; and where it goes back, all that is kept is put once more
-    // after that round.
-    pub(crate) fn resend_put(&mut self)
+    /// Has the messages that are kept put once more, to each process to which all of them were put: from the first on that it has not
+    /// received, as it stands. The others it would refuse as received before; and where it goes back, all that is kept is put once more
+    /// after that round.
+    pub fn resend_put(&mut self)
         ensures { self.new ≡ self.old }
     {
         let received = received_of(self.received, self.own);
@@ -287,22 +294,22 @@ impl<'a> Links<'a> {
         self.is_behind = true;
     }
 
-    // Tells the sender of a message, which the process has received, that it did.
-    pub(crate) fn tell_received(&self, message: &Message) {
+    /// Tells the sender of a message, which the process has received, that it did.
+    pub fn tell_received(&self, message: &Message) {
         if let Some(received) = self.received.get(self.own.index()) {
             received.tell(message.from, count_with(message));
         }
     }
 
-    // Tells all senders how much the process has received where it stands.
-    pub(crate) fn tell_all_received(&self, core: &ProcCore) {
+    /// Tells all senders how much the process has received where it stands.
+    pub fn tell_all_received(&self, core: &ProcCore) {
         if let Some(received) = self.received.get(self.own.index()) {
             received.tell_all(core.got());
         }
     }
 
-    // Puts the messages that are kept and not put yet, as far as there is room for them.
-    pub(crate) fn put_all<R: Wait>(
+    /// Puts the messages that are kept and not put yet, as far as there is room for them.
+    pub fn put_all<R: Wait>(
         &mut self,
         rt: &R,
         alloc: Global,
@@ -378,8 +385,8 @@ impl<'a> Links<'a> {
         }
     }
 
-    // Takes a message from one of the senders, each in its turn, if there is one.
-    pub(crate) fn take<R: Wait>(&mut self, rt: &R) -> Option<Taken>
+    /// Takes a message from one of the senders, each in its turn, if there is one.
+    pub fn take<R: Wait>(&mut self, rt: &R) -> Option<Taken>
         ensures { self.new ≡ self.old }
     {
         if let Some(bell) = self.bells.get(self.own.index()) {
@@ -432,8 +439,8 @@ impl<'a> Links<'a> {
         }
     }
 
-    // Drops what has come, and says whether anything had.
-    pub(crate) fn drain<R: Wait>(&mut self, rt: &R) -> bool
+    /// Drops what has come, and says whether anything had.
+    pub fn drain<R: Wait>(&mut self, rt: &R) -> bool
         ensures { self.new ≡ self.old }
     {
         for k in 0..CAPACITY {
