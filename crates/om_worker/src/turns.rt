@@ -1,13 +1,12 @@
 //! The turns of a worker, to its process's end.
 
-ghost use Rattle.std.specs.Prelude.{◌≡◌, ◌<◌, ◌≤◌, All, false, IfErr, IfOk, IsTrue, OnOk, Some, length, slice_get};
+ghost use Rattle.std.specs.Prelude.{◌≡◌, ◌<◌, ◌≤◌, All, false, IfErr, IfOk, IsTrue, OnOk, length};
 ghost use Rattle.om_node.specs.Ends.{IsWholeRun};
 ghost use Rattle.om_process.specs.Core.{IsEnd};
 ghost use Rattle.om_worker.specs.Ends.{IsEndOf};
 ghost use Rattle.om_report.specs.Faults.{IsFaultBy};
 ghost use Rattle.om_worker.specs.steps.Turning.{IsTurned};
-ghost use Rattle.om_node.specs.Nodes.{AreAlwaysClean};
-ghost use Rattle.om_worker_parts.specs.Places.{IsLanded, member_of};
+ghost use Rattle.om_worker_parts.specs.Places.{IsProcessOf, IsLanded, member_of};
 
 use crate::finished::Finished;
 use crate::worker::Worker;
@@ -72,10 +71,7 @@ fn take_turn<'a, K: Naming, J: Series, S: Ledger, R: Wait + Clock>(
     place: WorkerState<'a, J, S>,
     pass: Pass<K>,
 ) -> Result<AfterTurn<'a, K, J, S>, RunFault>
-    requires own { (member_of place).own ≡ worker.old.links.own }
-    requires program { slice_get K.programs (member_of place).own ≡ Some (member_of place).program }
-    requires size { (member_of place).n ≡ K.cell.n }
-    requires clean { K.OverClean → AreAlwaysClean S.is_clean }
+    requires process { IsProcessOf S.is_clean K.OverClean K.programs K.cell.n worker.old.links.own (member_of place) }
     requires landed { IsLanded place }
     ensures same { worker.new.links ≡ worker.old.links }
     ensures turned { IfOk result (λ t. IsTurned S.is_clean (member_of place.entry) t) }
@@ -102,10 +98,7 @@ fn turns_until_over<'a, K: Naming, J: Series, S: Ledger, R: Wait + Clock>(
     place: WorkerState<'a, J, S>,
     pass: Pass<K>,
 ) -> Result<(Status, Harvest<K>, S), RunFault>
-    requires own { (member_of place).own ≡ worker.old.links.own }
-    requires program { slice_get K.programs (member_of place).own ≡ Some (member_of place).program }
-    requires size { (member_of place).n ≡ K.cell.n }
-    requires clean { K.OverClean → AreAlwaysClean S.is_clean }
+    requires process { IsProcessOf S.is_clean K.OverClean K.programs K.cell.n worker.old.links.own (member_of place) }
     requires landed { IsLanded place }
     ensures same { worker.new.links ≡ worker.old.links }
     ensures ended { IfOk result (λ end. IsEnd end.0) }
@@ -147,10 +140,7 @@ pub(crate) fn take_turns<'a, K: Naming, J: Series, S: Ledger, R: Wait + Clock>(
     place: WorkerState<'a, J, S>,
     pass: Pass<K>,
 ) -> Result<Finished<K, S>, RunFault>
-    requires own { (member_of place).own ≡ worker.links.own }
-    requires program { slice_get K.programs (member_of place).own ≡ Some (member_of place).program }
-    requires size { (member_of place).n ≡ K.cell.n }
-    requires clean { K.OverClean → AreAlwaysClean S.is_clean }
+    requires process { IsProcessOf S.is_clean K.OverClean K.programs K.cell.n worker.links.own (member_of place) }
     requires landed { IsLanded place }
     ensures end { let m = member_of place.entry in
         IfOk result (λ f. IsEndOf S.is_clean m.program worker.entry.links.lines m.own m.n f) }

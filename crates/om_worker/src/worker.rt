@@ -1,13 +1,12 @@
 //! What the thread of a process does.
 
-ghost use Rattle.std.specs.Prelude.{◌≡◌, ◌<◌, ◌+◌, ◌⊎◌, [], false, IfNone, IfOk, IfSome, None, Ok, OnOk, Some, length, slice_get, true};
+ghost use Rattle.std.specs.Prelude.{◌≡◌, ◌<◌, ◌+◌, ◌⊎◌, [], false, IfNone, IfOk, IfSome, None, Ok, OnOk, Some, length, true};
 ghost use Rattle.om_member.specs.Handed.{outputs_from};
 ghost use Rattle.om_process.specs.Core.{IsEnd};
 ghost use Rattle.om_format.specs.declared.message.Message.{Message};
 ghost use Rattle.om_worker_parts.specs.Acts.{HasReleasedAnother};
 ghost use Rattle.om_report.specs.Locks.{UnderLock};
-ghost use Rattle.om_node.specs.Nodes.{AreAlwaysClean};
-ghost use Rattle.om_worker_parts.specs.Places.{IsLanded, member_of, IsLandedAt};
+ghost use Rattle.om_worker_parts.specs.Places.{IsProcessOf, IsLanded, member_of, IsLandedAt};
 ghost use Rattle.om_worker.specs.steps.Turning.{HasNothingToSay, HasReported, HasRun, IsOffered, IsTurnOf};
 ghost use Rattle.om_worker_parts.specs.Wiring.{HasEnds};
 
@@ -255,10 +254,7 @@ impl<'a, K: Naming> Worker<'a, K> {
         place: WorkerState<'a, J, S>,
         pass: Pass<K>,
     ) -> Result<(WorkerState<'a, J, S>, Pass<K>), WorkerFault>
-        requires own { (member_of place).own ≡ self.old.links.own }
-        requires program { slice_get K.programs (member_of place).own ≡ Some (member_of place).program }
-        requires size { (member_of place).n ≡ K.cell.n }
-        requires clean { K.OverClean → AreAlwaysClean S.is_clean }
+        requires process { IsProcessOf S.is_clean K.OverClean K.programs K.cell.n self.old.links.own (member_of place) }
         requires landed { IsLanded place }
         ensures same { self.new.links ≡ self.old.links }
         ensures place { IfOk result (λ r. member_of r.0 ≡ member_of place.entry) }
@@ -285,10 +281,7 @@ impl<'a, K: Naming> Worker<'a, K> {
         place: WorkerState<'a, J, S>,
         pass: Pass<K>,
     ) -> Result<(WorkerState<'a, J, S>, Pass<K>), WorkerFault>
-        requires own { (member_of place).own ≡ self.old.links.own }
-        requires program { slice_get K.programs (member_of place).own ≡ Some (member_of place).program }
-        requires size { (member_of place).n ≡ K.cell.n }
-        requires clean { K.OverClean → AreAlwaysClean S.is_clean }
+        requires process { IsProcessOf S.is_clean K.OverClean K.programs K.cell.n self.old.links.own (member_of place) }
         requires landed { IsLanded place }
         ensures same { self.new.links ≡ self.old.links }
         ensures place { IfOk result (λ r. member_of r.0 ≡ member_of place.entry) }
@@ -336,10 +329,7 @@ impl<'a, K: Naming> Worker<'a, K> {
         node: Node<'a, J, S>,
         pass: Pass<K>,
     ) -> Result<(WorkerState<'a, J, S>, Pass<K>), WorkerFault>
-        requires own { node.member.own ≡ self.old.links.own }
-        requires program { slice_get K.programs node.member.own ≡ Some node.member.program }
-        requires size { node.member.n ≡ K.cell.n }
-        requires clean { K.OverClean → AreAlwaysClean S.is_clean }
+        requires { IsProcessOf S.is_clean K.OverClean K.programs K.cell.n self.old.links.own node.member }
         ensures same { self.new.links ≡ self.old.links }
         ensures place { IfOk result (λ r. member_of r.0 ≡ node.entry.member) }
         ensures landed { IfOk result (λ r. IsLanded r.0) }
@@ -365,10 +355,7 @@ impl<'a, K: Naming> Worker<'a, K> {
         alloc: Global,
         node: &mut Node<'a, J, S>,
     ) -> Result<TurnOutcome, WorkerFault>
-        requires own { node.old.member.own ≡ self.old.links.own }
-        requires program { slice_get K.programs node.old.member.own ≡ Some node.old.member.program }
-        requires size { node.old.member.n ≡ K.cell.n }
-        requires clean { K.OverClean → AreAlwaysClean S.is_clean }
+        requires { IsProcessOf S.is_clean K.OverClean K.programs K.cell.n self.old.links.own node.old.member }
         ensures same { self.new.links ≡ self.old.links }
         ensures member { node.new.member ≡ node.old.member }
         ensures landed { IfOk result (λ step. IsLandedAt step node.new) }
@@ -391,10 +378,7 @@ impl<'a, K: Naming> Worker<'a, K> {
         alloc: Global,
         node: &mut Node<'a, J, S>,
     ) -> Result<TurnOutcome, WorkerFault>
-        requires own { node.old.member.own ≡ self.old.links.own }
-        requires program { slice_get K.programs node.old.member.own ≡ Some node.old.member.program }
-        requires size { node.old.member.n ≡ K.cell.n }
-        requires clean { K.OverClean → AreAlwaysClean S.is_clean }
+        requires { IsProcessOf S.is_clean K.OverClean K.programs K.cell.n self.old.links.own node.old.member }
         ensures same { self.new.links ≡ self.old.links }
         ensures member { node.new.member ≡ node.old.member }
     {
@@ -461,10 +445,7 @@ impl<'a, K: Naming> Worker<'a, K> {
         status: Status,
         called: bool,
     ) -> Result<ManagerPhase, WorkerFault>
-        requires own { node.old.member.own ≡ self.old.links.own }
-        requires program { slice_get K.programs node.old.member.own ≡ Some node.old.member.program }
-        requires size { node.old.member.n ≡ K.cell.n }
-        requires clean { K.OverClean → AreAlwaysClean S.is_clean }
+        requires { IsProcessOf S.is_clean K.OverClean K.programs K.cell.n self.old.links.own node.old.member }
         ensures same { self.new.links ≡ self.old.links }
         ensures member { node.new.member ≡ node.old.member }
         ensures reported { IfOk result (λ standing. HasNothingToSay self.old.manager_link.handed status node.old.core standing node.new.core

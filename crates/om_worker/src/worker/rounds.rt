@@ -1,12 +1,11 @@
 //! How a worker's process takes part in a round: it joins, declares its failure, waits, and goes on or comes back.
 
-ghost use Rattle.std.specs.Prelude.{◌≡◌, ◌<◌, ◌+◌, false, IfOk, IfSome, None, Ok, OnOk, Some, length, slice_get, true};
+ghost use Rattle.std.specs.Prelude.{◌≡◌, ◌<◌, ◌+◌, false, IfOk, IfSome, None, Ok, OnOk, length, true};
 ghost use Rattle.om_process.specs.Stores.{flushed};
 ghost use Rattle.om_worker.specs.steps.Turning.{HasHeeded, HasComeBack, HasRisen, IsTurnOf, WasTold};
 ghost use Rattle.om_worker_parts.specs.Acts.{HasJoined};
 ghost use Rattle.om_report.specs.Locks.{UnderLock};
-ghost use Rattle.om_node.specs.Nodes.{AreAlwaysClean};
-ghost use Rattle.om_worker_parts.specs.Places.{IsLanded, member_of};
+ghost use Rattle.om_worker_parts.specs.Places.{IsProcessOf, IsLanded, member_of};
 
 use super::Worker;
 use om_board::{Naming, Pass};
@@ -58,10 +57,7 @@ impl<'a, K: Naming> Worker<'a, K> {
         node: Node<'a, J, S>,
         pass: Pass<K>,
     ) -> Result<(WorkerState<'a, J, S>, Pass<K>), WorkerFault>
-        requires own { node.member.own ≡ self.old.links.own }
-        requires program { slice_get K.programs node.member.own ≡ Some node.member.program }
-        requires size { node.member.n ≡ K.cell.n }
-        requires clean { K.OverClean → AreAlwaysClean S.is_clean }
+        requires process { IsProcessOf S.is_clean K.OverClean K.programs K.cell.n self.old.links.own node.member }
         requires landed { node.away ≡ false }
         ensures same { self.new.links ≡ self.old.links }
         ensures place { IfOk result (λ r. member_of r.0 ≡ node.entry.member) }
@@ -86,10 +82,7 @@ impl<'a, K: Naming> Worker<'a, K> {
         node: &mut Node<'a, J, S>,
         pass: Pass<K>,
     ) -> Result<Pass<K>, WorkerFault>
-        requires own { node.old.member.own ≡ self.old.links.own }
-        requires program { slice_get K.programs node.old.member.own ≡ Some node.old.member.program }
-        requires size { node.old.member.n ≡ K.cell.n }
-        requires clean { K.OverClean → AreAlwaysClean S.is_clean }
+        requires process { IsProcessOf S.is_clean K.OverClean K.programs K.cell.n self.old.links.own node.old.member }
         requires landed { node.old.away ≡ false }
         ensures same { self.new.links ≡ self.old.links }
         ensures member { node.new.member ≡ node.old.member }
