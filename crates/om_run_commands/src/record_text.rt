@@ -1,6 +1,6 @@
 //! The text of what threads did: a script of `sim`, with comments.
 
-use crate::event_text::push_event;
+use crate::event_text::push_line;
 use om_commands::push_state;
 use om_interval::Pid;
 use om_runner::{Act, Letter, Record};
@@ -152,7 +152,7 @@ pub(crate) fn record_text(
             frames.make(letter)?;
         }
         if let Some(event) = frames.event_of(*act) {
-            push_event(&mut text, event)?;
+            push_line(&mut text, event)?;
         }
     }
     Ok(text)
