@@ -45,14 +45,13 @@ pub(crate) fn push_answers(
     Ok(())
 }
 
-/// Returns the name of a process.
+/// Returns the name of a process, and an empty one where there is no such process.
 pub fn name_of(programs: &Programs, p: usize) -> &str
-    requires { p < length programs.now.processes }
     ensures { result.now ≡ name_at programs.now p }
 {
     match programs.name(p) {
         Some(name) => name,
-        None => unreachable!(),
+        None => "",
     }
 }
 
