@@ -240,7 +240,7 @@ pub(crate) fn take_up<'a, K: Naming, J: Series, R: Wait + Clock, G, O: Opener<R>
     cluster: &Cluster<'a, K, R, G, O>,
     worker: &mut Worker<'a, K>,
     image: &'a Image,
-    line: Option<FlightChannel<J, O::Store>>,
+    channel: Option<FlightChannel<J, O::Store>>,
 ) -> Result<(DownNode<'a, J, O::Store>, u64), RunFault>
     requires few { K.cell.n ≤ MAX_PROCESSES }
     requires unsure { AreNeverClean O.Store.is_clean }
@@ -265,7 +265,7 @@ pub(crate) fn take_up<'a, K: Naming, J: Series, R: Wait + Clock, G, O: Opener<R>
     if let Err(fault) = worker.take_up(cluster.rt, alloc, found) {
         return Err(run_fault(fault, pid));
     }
-    match DownNode::over(alloc, image, pid, n, store, line) {
+    match DownNode::over(alloc, image, pid, n, store, channel) {
         Ok(down_node) => Ok((down_node, left)),
         Err(_) => Err(RunFault::Memory),
     }

@@ -251,18 +251,18 @@ impl<'a, K: Naming> Worker<'a, K> {
         &mut self,
         rt: &R,
         alloc: Global,
-        place: WorkerState<'a, J, S>,
+        state: WorkerState<'a, J, S>,
         pass: Pass<K>,
     ) -> Result<(WorkerState<'a, J, S>, Pass<K>), WorkerFault>
-        requires process { IsProcessOf S.is_clean K.OverClean K.programs K.cell.n self.old.links.own (member_of place) }
-        requires landed { IsLanded place }
+        requires process { IsProcessOf S.is_clean K.OverClean K.programs K.cell.n self.old.links.own (member_of state) }
+        requires landed { IsLanded state }
         ensures same { self.new.links ≡ self.old.links }
-        ensures place { IfOk result (λ r. member_of r.0 ≡ member_of place.entry) }
+        ensures place { IfOk result (λ r. member_of r.0 ≡ member_of state.entry) }
         ensures landed { IfOk result (λ r. IsLanded r.0) }
-        ensures turned { IfOk result (λ r. IsTurnOf K.cell.n self.old.manager_link.round place.entry r.0) }
+        ensures turned { IfOk result (λ r. IsTurnOf K.cell.n self.old.manager_link.round state.entry r.0) }
     {
         self.extra = 0;
-        match place {
+        match state {
             WorkerState::Up(node) => self.go_on(rt, alloc, node, pass),
             WorkerState::MustJoin(node) => self.join(rt, alloc, node, pass),
             WorkerState::Joined(node) => self.wait_in(rt, alloc, node, pass),
@@ -278,19 +278,19 @@ impl<'a, K: Naming> Worker<'a, K> {
         &mut self,
         rt: &R,
         alloc: Global,
-        place: WorkerState<'a, J, S>,
+        state: WorkerState<'a, J, S>,
         pass: Pass<K>,
     ) -> Result<(WorkerState<'a, J, S>, Pass<K>), WorkerFault>
-        requires process { IsProcessOf S.is_clean K.OverClean K.programs K.cell.n self.old.links.own (member_of place) }
-        requires landed { IsLanded place }
+        requires process { IsProcessOf S.is_clean K.OverClean K.programs K.cell.n self.old.links.own (member_of state) }
+        requires landed { IsLanded state }
         ensures same { self.new.links ≡ self.old.links }
-        ensures place { IfOk result (λ r. member_of r.0 ≡ member_of place.entry) }
+        ensures place { IfOk result (λ r. member_of r.0 ≡ member_of state.entry) }
         ensures landed { IfOk result (λ r. IsLanded r.0) }
     {
         if self.watch.is_none() {
-            return self.turn(rt, alloc, place, pass);
+            return self.turn(rt, alloc, state, pass);
         }
-        let mut turned = self.turn(rt, alloc, place, pass)?;
+        let mut turned = self.turn(rt, alloc, state, pass)?;
         self.show(rt, &mut turned);
         Ok(turned)
     }
@@ -339,7 +339,7 @@ impl<'a, K: Naming> Worker<'a, K> {
         }
         let mut node = node;
         match self.step(rt, alloc, &mut node) {
-            Ok(step) => Ok((step.place_of(node), pass)),
+            Ok(turn_outcome) => Ok((turn_outcome.place_of(node), pass)),
             Err(worker_fault) => {
                 drop(node);
                 Err(worker_fault)
@@ -358,14 +358,14 @@ impl<'a, K: Naming> Worker<'a, K> {
         requires { IsProcessOf S.is_clean K.OverClean K.programs K.cell.n self.old.links.own node.old.member }
         ensures same { self.new.links ≡ self.old.links }
         ensures member { node.new.member ≡ node.old.member }
-        ensures landed { IfOk result (λ step. IsLandedAt step node.new) }
+        ensures landed { IfOk result (λ turn_outcome. IsLandedAt turn_outcome node.new) }
     {
         self.look(rt, node)?;
         match self.advance(rt, alloc, node)? {
             TurnOutcome::Up => Ok(TurnOutcome::Up),
-            step => {
+            turn_outcome => {
                 self.recall(rt, node)?;
-                Ok(step)
+                Ok(turn_outcome)
             }
         }
     }
@@ -384,8 +384,8 @@ impl<'a, K: Naming> Worker<'a, K> {
     {
         let status = self.run(rt, alloc, node)?;
         let called = self.manager_link.is_called(self.manager_link.failures());
-        let standing = self.report(rt, alloc, node, status, called)?;
-        match standing {
+        let phase = self.report(rt, alloc, node, status, called)?;
+        match phase {
             ManagerPhase::Closed => {
                 if !status.has_ended() {
                     self.launch(rt, alloc, node)?;
@@ -448,22 +448,22 @@ impl<'a, K: Naming> Worker<'a, K> {
         requires { IsProcessOf S.is_clean K.OverClean K.programs K.cell.n self.old.links.own node.old.member }
         ensures same { self.new.links ≡ self.old.links }
         ensures member { node.new.member ≡ node.old.member }
-        ensures reported { IfOk result (λ standing. HasNothingToSay self.old.manager_link.handed status node.old.core standing node.new.core
-            ⊎ HasReported K.cell.n self.old.manager_link.pid self.old.manager_link.round status node.old.core standing) }
+        ensures reported { IfOk result (λ phase. HasNothingToSay self.old.manager_link.handed status node.old.core phase node.new.core
+            ⊎ HasReported K.cell.n self.old.manager_link.pid self.old.manager_link.round status node.old.core phase) }
         ensures idle { let link = self.old.manager_link in (IsEnd status → ⊥) → called ≡ false → node.old.core.pending ≡ []
             → outputs_from node.old.core link.handed ≡ []
-            → IfOk result (λ standing. HasNothingToSay link.handed status node.old.core standing node.new.core) }
+            → IfOk result (λ phase. HasNothingToSay link.handed status node.old.core phase node.new.core) }
     {
         let ended = status.has_ended();
         if !self.manager_link.is_due(node.core(), ended, called) {
             return Ok(ManagerPhase::Closed);
         }
         let is_patient = self.patience.is_patient();
-        let (standing, limits) = self
+        let (phase, limits) = self
             .manager_link
             .meet(rt, alloc, node, ended, is_patient, &mut self.diary)?;
         self.apply_limits(alloc, node, limits, ended)?;
-        Ok(standing)
+        Ok(phase)
     }
 
     // Takes a message, where the process waits for one. What comes to one that has ended is dropped: a round that rolls it back

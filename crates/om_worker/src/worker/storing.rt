@@ -48,7 +48,7 @@ impl<'a, K: Naming> Worker<'a, K> {
         ensures member { node.new.member ≡ node.old.member }
         ensures now { node.new.core.now ≡ node.old.core.now }
         ensures killed { Contains self.old.kills.items x → result ≡ Ok TurnOutcome.Failed }
-        ensures spared { (Contains self.old.kills.items x → ⊥) → IfOk result (λ step. step ≡ TurnOutcome.Up) }
+        ensures spared { (Contains self.old.kills.items x → ⊥) → IfOk result (λ turn_outcome. turn_outcome ≡ TurnOutcome.Up) }
         ensures stored { let w = self.old in (Contains w.kills.items x → ⊥) → node.old.slow ≡ false
             → OnOk result (HasStoredBy x w.plan.now.flush w.plan.now.checkpoint (is_some w.kept) node.old.core node.new.core) }
     {

@@ -11,11 +11,11 @@ meet-requires g c = let w = c.args.self.now in still_process _ _ _ _ w.links.own
 
 pub apply_limits-requires : goal.apply_limits-requires
 apply_limits-requires g c =
-    let met = c.in_ok-standing.ensures in
-    subst (λ (n : ℕ). IfSome c.in_ok-standing.limits (λ l. length l.bounds.got ≡ n)) (sym (ap (λ (m : Member). m.n) met.member ∙ c.requires.size)) met.limits
+    let met = c.in_ok-phase.ensures in
+    subst (λ (n : ℕ). IfSome c.in_ok-phase.limits (λ l. length l.bounds.got ≡ n)) (sym (ap (λ (m : Member). m.n) met.member ∙ c.requires.size)) met.limits
 
 pub returns-clause-reported : goal.returns-clause-reported
-returns-clause-reported g c = inr (c.has_ended-ended.result, c.has_ended-ended.ensures, c.in_ok-standing.limits, c.meet.new.node.core, c.in_ok-standing.ensures.met)
+returns-clause-reported g c = inr (c.has_ended-ended.result, c.has_ended-ended.ensures, c.in_ok-phase.limits, c.meet.new.node.core, c.in_ok-phase.ensures.met)
 
 pub returns-clause-idle : goal.returns-clause-idle
 returns-clause-idle g c = λ runs calm told made.
