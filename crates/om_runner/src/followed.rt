@@ -48,8 +48,8 @@ fn close<K: Naming, R: Wait, G, O: Opener<R>, F: Follower>(
     parts: Result<Parts<K, O::Store>, RunFault>,
     following: Following<'_, K, F>,
 ) -> (Result<FollowedReport, FollowFault>, F)
-    requires named { IsNamedFor O.Store.is_clean K.OverClean K.programs K.cell.n cluster.now.plan.now.images.items }
-    requires parts { IfOk parts (AreParts O.Store.is_clean cluster.now.plan.now.images.items cluster.now.inboxes.now) }
+    requires named { IsNamedFor O.Store.is_clean K.OverClean K.programs K.cell.n cluster.now.config.now.images.items }
+    requires parts { IfOk parts (AreParts O.Store.is_clean cluster.now.config.now.images.items cluster.now.inboxes.now) }
     ensures told { (start : F) → IsFollowed F.Tells K.OverClean K.programs K.cell.n following.entry.front.vec start following.entry.lanes.items following.entry.fault following.entry.follower
         → IfOk result.0 (λ report. (told : List Told) × F.Tells start result.1 told
         × IsToldReport K.OverClean K.programs report.statuses.items report.front told) }
@@ -80,25 +80,25 @@ fn run_named<
 >(
     rt: &'x R,
     alloc: Global,
-    plan: &'x Config,
+    config: &'x Config,
     gate: &'x G,
     opener: &'x O,
     follower: F,
     blank: Blank,
 ) -> (Result<FollowedReport, FollowFault>, F)
     requires named { blank ≡ K.cell }
-    requires size { blank.n ≡ length plan.now.images.items }
-    requires some { 1 ≤ length plan.now.images.items }
-    requires few { length plan.now.images.items ≤ MAX_PROCESSES }
-    requires programs { K.programs ≡ map program_of plan.now.images.items }
+    requires size { blank.n ≡ length config.now.images.items }
+    requires some { 1 ≤ length config.now.images.items }
+    requires few { length config.now.images.items ≤ MAX_PROCESSES }
+    requires programs { K.programs ≡ map program_of config.now.images.items }
     requires clean { K.OverClean → AreAlwaysClean O.Store.is_clean }
     requires start { F.Tells follower follower [] }
     ensures told { IfOk result.0 (λ report. (told : List Told) × F.Tells follower result.1 told
         × IsToldReport K.OverClean K.programs report.statuses.items report.front told) }
     ensures partly { IfErr result.0 (λ fault. fault ≢ Unwanted → (told : List Told) × F.Tells follower result.1 told × AreInOrder told
-        × (K.OverClean → AreToldMade (map program_of plan.now.images.items) (length plan.now.images.items) told)) }
+        × (K.OverClean → AreToldMade (map program_of config.now.images.items) (length config.now.images.items) told)) }
 {
-    let Ok((ground, ends, passes)) = ground_of::<K>(alloc, plan.images.len(), blank) else {
+    let Ok((ground, ends, passes)) = ground_of::<K>(alloc, config.images.len(), blank) else {
         return (Err(FollowFault::Run(RunFault::Memory)), follower);
     };
     let herald = Herald::new(alloc);
@@ -109,7 +109,7 @@ fn run_named<
     let cluster = Cluster {
         rt,
         alloc,
-        plan,
+        config,
         gate,
         opener,
         shared: &ground.shared,

@@ -18,7 +18,7 @@ use std::sync::atomic::{AtomicBool, AtomicU64};
 pub struct Cluster<'s, K: Naming, R, G, O> {
     pub rt: &'s R,
     pub alloc: Global,
-    pub plan: &'s Config,
+    pub config: &'s Config,
     pub gate: &'s G,
     pub opener: &'s O,
     pub shared: &'s Shared<K>,

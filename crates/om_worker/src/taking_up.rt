@@ -247,13 +247,19 @@ pub(crate) fn take_up<'a, K: Naming, J: Series, R: Wait + Clock, G, O: Opener<R>
     requires clean { K.OverClean → AreAlwaysClean O.Store.is_clean }
     ensures same { worker.new.links ≡ worker.old.links }
     ensures member { IfOk result (λ made. made.0 ≡ record { program = program_of image.entry.now; own = worker.old.links.own; n = K.cell.n }) }
-    ensures left { IfOk result (λ made. made.1 ≤ cluster.now.plan.now.turns) }
+    ensures left { IfOk result (λ made. made.1 ≤ cluster.now.config.now.turns) }
     ensures fault { IfErr result (IsFaultBy worker.old.links.own) }
 {
     let (pid, n, alloc) = (worker.pid(), worker.n(), cluster.alloc);
     let census = cluster.census;
     let before = pid.index().min(1) as u64;
-    let left = wait_for(cluster, worker, &census.opened, before, cluster.plan.turns)?;
+    let left = wait_for(
+        cluster,
+        worker,
+        &census.opened,
+        before,
+        cluster.config.turns,
+    )?;
     let mut store = opened(cluster, worker)?;
     let found = looked_at(cluster, worker, image, &mut store)?;
     let left = wait_for(cluster, worker, &census.looked, n as u64, left)?;

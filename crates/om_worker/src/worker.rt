@@ -41,7 +41,7 @@ const ALL_RECEIPTS: usize = usize::MAX;
 // would be, which the prover goes through one by one.
 #[derive(Drop)]
 pub(crate) struct Worker<'a, K: Naming> {
-    plan: &'a Config,
+    config: &'a Config,
     manager_link: ManagerLink<'a, K>,
     links: Links<'a>,
     barrier: Barrier<'a>,
@@ -107,7 +107,7 @@ fn last_checkpoint(rows: &[PendingRow]) -> u32 {
 
 impl<'a, K: Naming> Worker<'a, K> {
     pub(crate) fn new(
-        plan: &'a Config,
+        config: &'a Config,
         shared: &'a Shared<K>,
         links: Links<'a>,
         barrier: Barrier<'a>,
@@ -120,7 +120,7 @@ impl<'a, K: Naming> Worker<'a, K> {
     {
         let own = links.own();
         Worker {
-            plan,
+            config,
             manager_link: ManagerLink::new(own, shared),
             links,
             barrier,
@@ -411,7 +411,7 @@ impl<'a, K: Naming> Worker<'a, K> {
         requires size { node.old.member.n ≡ K.cell.n }
         ensures same { self.new.links ≡ self.old.links }
         ensures member { node.new.member ≡ node.old.member }
-        ensures ran { IfOk result (λ status. HasRun node.old.core self.old.plan.now.fuel status node.new.core.now) }
+        ensures ran { IfOk result (λ status. HasRun node.old.core self.old.config.now.fuel status node.new.core.now) }
         ensures stored { IfOk result (λ status. IsEnd status → node.new.core.log ≡ []) }
         ensures landed { IfOk result (λ status. IsEnd status → node.new.away ≡ false) }
     {
@@ -419,7 +419,7 @@ impl<'a, K: Naming> Worker<'a, K> {
             // Of a run that is recorded what a process stores is noted before it runs on, so that both are one event.
             return Ok(Status::Ready);
         }
-        let ran = node.run(alloc, self.plan.fuel)?;
+        let ran = node.run(alloc, self.config.fuel)?;
         self.diary.ran(rt, node.core(), ran)?;
         if ran.steps > 0 {
             self.change();

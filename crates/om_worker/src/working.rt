@@ -85,17 +85,17 @@ fn admit<'a, K: Naming, J: Series, R: Wait, G: Gate, O: Opener<R>>(
     channel: Option<FlightChannel<J, O::Store>>,
 ) -> Result<(Node<'a, J, O::Store>, Vec<u32>), RunFault>
     ensures member { IfOk result (λ made. made.0.member ≡ record { program = program_of image.entry.now; own = pid; n = n }) }
-    ensures asked { OnOk result (1 ≤ cluster.now.plan.now.gate_turns) }
+    ensures asked { OnOk result (1 ≤ cluster.now.config.now.gate_turns) }
     ensures fault { IfErr result (IsFaultBy pid) }
 {
     let Cluster {
         rt,
         alloc,
-        plan,
+        config,
         ..
     } = *cluster;
-    pass_gate(cluster.gate, plan.gate_turns, pid)?;
-    let Ok(kills) = kills_of(alloc, &plan.kills, pid) else {
+    pass_gate(cluster.gate, config.gate_turns, pid)?;
+    let Ok(kills) = kills_of(alloc, &config.kills, pid) else {
         return Err(RunFault::Memory);
     };
     let node = begin(rt, alloc, cluster.opener, image, pid, n, channel)?;
@@ -112,7 +112,7 @@ fn work_anew<'a, K: Naming, J: Series, R: Wait + Clock, G: Gate, O: Opener<R>>(
     requires clean { K.OverClean → AreAlwaysClean O.Store.is_clean }
     ensures end { let l = job.entry.links in
         IfOk result (λ f. IsEndOf O.Store.is_clean (program_of image.entry.now) l.lines l.own l.n f) }
-    ensures own { IsOwnEnd cluster.now.plan.now job.entry.links.own result }
+    ensures own { IsOwnEnd cluster.now.config.now job.entry.links.own result }
 {
     let Job {
         links,
@@ -124,7 +124,7 @@ fn work_anew<'a, K: Naming, J: Series, R: Wait + Clock, G: Gate, O: Opener<R>>(
     let Cluster {
         rt,
         alloc,
-        plan,
+        config,
         shared,
         stop,
         returns,
@@ -132,12 +132,12 @@ fn work_anew<'a, K: Naming, J: Series, R: Wait + Clock, G: Gate, O: Opener<R>>(
         ..
     } = *cluster;
     let barrier = Barrier::new(returns, links.n());
-    let mut worker = Worker::new(plan, shared, links, barrier, kills, alloc, observers);
+    let mut worker = Worker::new(config, shared, links, barrier, kills, alloc, observers);
     worker.arrive(node.core().round());
     take_turns(
         rt,
         alloc,
-        plan.turns,
+        config.turns,
         stop,
         worker,
         WorkerState::Up(node),
@@ -156,7 +156,7 @@ fn work_on<'a, K: Naming, J: Series, R: Wait + Clock, G: Gate, O: Opener<R>>(
     requires clean { K.OverClean → AreAlwaysClean O.Store.is_clean }
     ensures end { let l = job.entry.links in
         IfOk result (λ f. IsEndOf O.Store.is_clean (program_of image.entry.now) l.lines l.own l.n f) }
-    ensures own { IsOwnEnd cluster.now.plan.now job.entry.links.own result }
+    ensures own { IsOwnEnd cluster.now.config.now job.entry.links.own result }
 {
     let Job {
         links,
@@ -168,17 +168,17 @@ fn work_on<'a, K: Naming, J: Series, R: Wait + Clock, G: Gate, O: Opener<R>>(
     let Cluster {
         rt,
         alloc,
-        plan,
+        config,
         stop,
         ..
     } = *cluster;
-    pass_gate(cluster.gate, plan.gate_turns, pid)?;
-    let Ok(kills) = kills_of(alloc, &plan.kills, pid) else {
+    pass_gate(cluster.gate, config.gate_turns, pid)?;
+    let Ok(kills) = kills_of(alloc, &config.kills, pid) else {
         return Err(RunFault::Memory);
     };
     let barrier = Barrier::new(cluster.returns, n);
     let mut worker = Worker::new(
-        plan,
+        config,
         cluster.shared,
         links,
         barrier,
@@ -208,7 +208,7 @@ fn work<'a, K: Naming, J: Series, R: Wait + Clock, G: Gate, O: Opener<R>>(
     requires clean { K.OverClean → AreAlwaysClean O.Store.is_clean }
     ensures end { let l = job.entry.links in
         IfOk result (λ f. IsEndOf O.Store.is_clean (program_of image.entry.now) l.lines l.own l.n f) }
-    ensures own { IsOwnEnd cluster.now.plan.now job.entry.links.own result }
+    ensures own { IsOwnEnd cluster.now.config.now job.entry.links.own result }
 {
     if cluster.opener.resumes() {
         work_on(cluster, image, job)
@@ -228,7 +228,7 @@ pub fn work_or_stop<'a, K: Naming, J: Series, R: Wait + Clock, G: Gate, O: Opene
     requires clean { K.OverClean → AreAlwaysClean O.Store.is_clean }
     ensures end { let l = job.entry.links in
         IfOk result (λ f. IsEndOf O.Store.is_clean (program_of image.entry.now) l.lines l.own l.n f) }
-    ensures own { IsOwnEnd cluster.now.plan.now job.entry.links.own result }
+    ensures own { IsOwnEnd cluster.now.config.now job.entry.links.own result }
 {
     let result = work(cluster, image, job);
     if result.is_err() {

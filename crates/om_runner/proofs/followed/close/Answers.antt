@@ -9,7 +9,7 @@ pub returns-clause-told : goal.returns-clause-told
 returns-clause-told g c = λ start was.
     let is_clean = g.O.Store.Stable.is_clean in
     let k = g.K.Naming in
-    let images = c.args.cluster.now.plan.now.images.items in
+    let images = c.args.cluster.now.config.now.images.items in
     let lines = c.args.cluster.now.inboxes.now in
     let brought = c.settled-statuses in
     let are = subst (λ r. IfOk r (AreParts is_clean images lines)) c.in-Ok.is c.requires.parts in

@@ -22,7 +22,7 @@ returns-clause-partly g c =
     let k = g.K.Naming in
     let start = told_at_start g.F.Follower.Tells k.OverClean k.programs k.cell.n following.front.vec c.args.follower following.lanes.items c.requires.start c.in-Ok-new.ensures.none in
     let first = subst (λ f. IsTold g.F.Follower.Tells k.OverClean k.programs k.cell.n following.front.vec c.args.follower following.lanes.items f) (sym c.in-Ok-new.ensures.follower) start in
-    let images = c.args.plan.now.images.items in
+    let images = c.args.config.now.images.items in
     let n_is : k.cell.n ≡ length images = ap (λ (cell : CellName). cell.n) (sym c.requires.named) ∙ c.requires.size in
     let Partly : List Program → ℕ → Type 0 = λ ps n. IfErr c.close.result.0 (λ fault. fault ≢ Unwanted → (told : List Told) × g.F.Follower.Tells c.args.follower c.close.result.1 told
     × AreInOrder told × (k.OverClean → AreToldMade ps n told)) in
