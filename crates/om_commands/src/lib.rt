@@ -9,7 +9,7 @@
 //! - what all share: `command` (reads the input, writes the answer), `error`
 //! - `frontier`: with `record_script` (its lines), `report` (the texts of answers)
 //! - `decode`: with `word_script`
-//! - `sim`: with `sim_script` and `events` (its lines), `sim_text` (the texts of answers), `bytes_text` (those of outputs)
+//! - `sim`: with `sim_script` and `events` (its lines), `sim_text` (the lines of answers, and how the world stands), `bytes_text` (the bytes of outputs)
 //! - `replay` with `state_text`, and `steps`; `show`
 //! - `laws`
 #![tactic(auto)]
@@ -38,4 +38,3 @@ pub use error::CommandError;
 pub use report::push_state;
 pub use sim_script::SimScript;
 pub use sim_text::{name_of, push_output, push_outputs};
-pub use state_text::push_status;

@@ -7,92 +7,18 @@ ghost use Rattle.om_manager.specs.Outputs.{held_of};
 ghost use Rattle.om_manager.specs.State.{process_count};
 ghost use Rattle.om_commands.specs.SimText.{answer_line, answers_text, core_text, name_at, output_line, outputs_text};
 ghost use Rattle.om_commands.specs.steps.Lines.{process_line, released_text, written_end};
-ghost use Rattle.om_world.specs.Texts.{answer_text, refusal_word};
-ghost use Rattle.om_world.specs.declared.event.Answer.{Answer};
 
 use crate::bytes_text::{BytesForm, push_bytes_in};
 use crate::report::push_state;
-use crate::state_text::push_status;
+use om_event_text::{push_answer, push_status};
 use om_interval::{DepVec, Pid};
-use om_manager::{Gathered, Manager, Output};
-use om_process::{Accept, ProcCore};
+use om_manager::{Manager, Output};
+use om_process::ProcCore;
 use om_scripts::Programs;
 use om_stable::Stable;
-use om_world::{Answer, Refusal, World};
+use om_world::{Answer, World};
 use std::alloc::{AllocError, Global};
 use std::fmt::Write;
-
-// Writes what a process answers to a frame.
-fn push_accept(text: &mut String, accept: Accept) -> Result<(), AllocError>
-    ensures { OnOk result (string_bytes text.new ≡ string_bytes text.old ++ answer_text (Answer.Given accept)) }
-{
-    match accept {
-        Accept::Taken(x) => write!(text, "taken {x}"),
-        Accept::Repeat => text.push_str("repeat"),
-        Accept::Ahead => text.push_str("ahead"),
-        Accept::Orphan => text.push_str("orphan"),
-        Accept::NotWaiting => text.push_str("not-waiting"),
-        Accept::Stranger => text.push_str("stranger"),
-        Accept::Full => text.push_str("full"),
-        Accept::Memory => text.push_str("memory"),
-    }
-}
-
-fn refusal_word(why: Refusal) -> &'static str
-    ensures { result.now ≡ refusal_word why }
-{
-    match why {
-        Refusal::NoProcess => "no-process",
-        Refusal::NotUp => "not-up",
-        Refusal::NoFrame => "no-frame",
-        Refusal::NotIn => "not-in",
-        Refusal::NoRound => "no-round",
-        Refusal::Spent => "spent",
-        Refusal::Present => "present",
-        Refusal::Fault => "fault",
-        Refusal::Damaged => "damaged",
-        Refusal::Memory => "memory",
-        Refusal::Unsettled => "unsettled",
-    }
-}
-
-fn gathered_word(gathered: Gathered) -> &'static str
-    ensures { result.now ≡ answer_text (Answer.Gathered gathered) }
-{
-    match gathered {
-        Gathered::Waiting => "waiting",
-        Gathered::Finished => "finished",
-    }
-}
-
-// Writes what is answered to an event.
-fn push_answer(text: &mut String, answer: Answer) -> Result<(), AllocError>
-    ensures { OnOk result (string_bytes text.new ≡ string_bytes text.old ++ answer_text answer) }
-{
-    match answer {
-        Answer::Ran {
-            steps,
-            status,
-            sent,
-            made,
-        } => {
-            write!(text, "ran {steps} ")?;
-            push_status(text, status)?;
-            write!(text, " sent {sent} made {made}")
-        }
-        Answer::Given(accept) => push_accept(text, accept),
-        Answer::Noted(count) => write!(text, "noted {count}"),
-        Answer::Resent(count) => write!(text, "sent {count}"),
-        Answer::Trimmed => text.push_str("trimmed"),
-        Answer::Pruned => text.push_str("pruned"),
-        Answer::Gathered(gathered) => text.push_str(gathered_word(gathered)),
-        Answer::Down => text.push_str("down"),
-        Answer::Back { interval, inc } => write!(text, "back {interval} inc {inc}"),
-        Answer::GoesOn => text.push_str("goes-on"),
-        Answer::Restarted => text.push_str("restarted"),
-        Answer::Refused(why) => text.push_str(refusal_word(why)),
-    }
-}
 
 // Writes the line of an answer, behind which this is the recovery state.
 fn push_line(text: &mut String, answer: Answer, state: &DepVec) -> Result<(), AllocError>
@@ -119,14 +45,13 @@ pub(crate) fn push_answers(
     Ok(())
 }
 
-/// Returns the name of a process.
+/// Returns the name of a process, and an empty one where there is no such process.
 pub fn name_of(programs: &Programs, p: usize) -> &str
-    requires { p < length programs.now.processes }
     ensures { result.now ≡ name_at programs.now p }
 {
     match programs.name(p) {
         Some(name) => name,
-        None => unreachable!(),
+        None => "",
     }
 }
 

@@ -4,11 +4,11 @@ ghost use Rattle.std.specs.Prelude.{◌≡◌, ◌++◌, ◌∷◌, ◌≤◌, [
 ghost use Rattle.om_isa.specs.declared.memory.TheConstants.{MAX_MEMORY};
 ghost use Rattle.om_look.specs.Trace.{word_text};
 ghost use Rattle.om_commands.specs.steps.Lines.{head_text, memory_line, memory_text, register_line, registers_text, written_state};
-ghost use Rattle.om_world.specs.Texts.{status_text};
 
+use om_event_text::push_status;
 use om_isa::REGISTERS;
 use om_machine::Machine;
-use om_process::{ProcCore, Status};
+use om_process::ProcCore;
 use std::alloc::{AllocError, Global};
 use std::fmt::Write;
 
@@ -103,19 +103,4 @@ fn push_row(
     text.push(' ')?;
     text.push_str(&hex::encode(alloc, &memory[address..end])?)?;
     text.push('\n')
-}
-
-/// Writes what a process is about to do: `ready`, `waiting`, `ended CODE` or `trapped CAUSE`.
-pub fn push_status(text: &mut String, status: Status) -> Result<(), AllocError>
-    ensures { OnOk result (string_bytes text.new ≡ string_bytes text.old ++ status_text status) }
-{
-    match status {
-        Status::Ready => text.push_str("ready"),
-        Status::Waiting => text.push_str("waiting"),
-        Status::Ended(code) => write!(text, "ended {code}"),
-        Status::Trapped(cause) => {
-            let number = cause.number();
-            write!(text, "trapped {number}")
-        }
-    }
 }

@@ -4,8 +4,8 @@ use Rattle.std.specs.List.{flat_map, range_with_len}
 use Rattle.hex.specs.Hex.{encode_lower}
 use Rattle.om_requests.specs.declared.request.Command.{Command}
 use Rattle.om_requests.specs.declared.request.Command.TheVariants as commands
+use Rattle.om_world.specs.Texts.{event_text}
 use Rattle.om_world.specs.declared.event.Event.{Event}
-use Rattle.om_world.specs.declared.event.Event.TheVariants as events
 use Rattle.om_timeline.specs.Timeline.{TimelineState, machine_here}
 use Rattle.om_debug.specs.declared.debugger.Reply.{Reply}
 use Rattle.om_debug.specs.declared.monitor.TheConstants.{EVENTS_BEFORE, EVENTS_FROM, HELP}
@@ -14,22 +14,6 @@ use Rattle.om_debug.specs.Stops.{DebugState, with_timeline}
 use Rattle.om_debug.specs.Told.{text_of}
 
 -- ---- texts
--- an event as a line of a script
-abbrev pub event_text : Event → List ℕ
-event_text (events.Run process fuel) = codes "run " ++ decimal process ++ codes " " ++ decimal fuel
-event_text (events.Give process frame) = codes "give " ++ decimal process ++ codes " " ++ decimal frame
-event_text (events.Flush process) = codes "flush " ++ decimal process
-event_text (events.FlushFirst process count) = codes "flush " ++ decimal process ++ codes " " ++ decimal count
-event_text (events.Checkpoint process) = codes "checkpoint " ++ decimal process
-event_text (events.Spell process) = codes "spell " ++ decimal process
-event_text (events.Resend process) = codes "resend " ++ decimal process
-event_text (events.Trim process) = codes "trim " ++ decimal process
-event_text (events.Fail process) = codes "fail " ++ decimal process
-event_text (events.Join process) = codes "join " ++ decimal process
-event_text (events.Resume process) = codes "resume " ++ decimal process
-event_text events.Prune = codes "prune"
-event_text events.Restart = codes "restart"
-
 abbrev pub done_text : ℕ → List ℕ
 done_text turns = codes ", " ++ decimal turns ++ codes " instructions done"
 

@@ -2,9 +2,10 @@
 
 ghost use Rattle.std.specs.Prelude.{◌≡◌, ◌++◌, ◌-◌, IfOk, OnOk, Some, slice_get, string_bytes};
 ghost use Rattle.std.specs.List.{flat_map, range_with_len};
-ghost use Rattle.om_debug.specs.Monitor.{doing_text, done_text, event_if, event_line, event_text, events_text, mark, process_line, time_line, where_text};
+ghost use Rattle.om_debug.specs.Monitor.{doing_text, done_text, event_if, event_line, events_text, mark, process_line, time_line, where_text};
 
 use crate::debugger::Debugger;
+use om_event_text::push_event;
 use om_world::Event;
 use std::alloc::AllocError;
 
@@ -16,27 +17,6 @@ pub const HELP: &str =
 const EVENTS_BEFORE: usize = 5;
 
 const EVENTS_FROM: usize = 6;
-
-// Writes an event as a line of a script.
-fn push_event(out: &mut String, event: Event) -> Result<(), AllocError>
-    ensures { OnOk result (string_bytes out.new ≡ string_bytes out.old ++ event_text event) }
-{
-    match event {
-        Event::Run { process, fuel } => write!(out, "run {process} {fuel}"),
-        Event::Give { process, frame } => write!(out, "give {process} {frame}"),
-        Event::Flush { process } => write!(out, "flush {process}"),
-        Event::FlushFirst { process, count } => write!(out, "flush {process} {count}"),
-        Event::Checkpoint { process } => write!(out, "checkpoint {process}"),
-        Event::Spell { process } => write!(out, "spell {process}"),
-        Event::Resend { process } => write!(out, "resend {process}"),
-        Event::Trim { process } => write!(out, "trim {process}"),
-        Event::Fail { process } => write!(out, "fail {process}"),
-        Event::Join { process } => write!(out, "join {process}"),
-        Event::Resume { process } => write!(out, "resume {process}"),
-        Event::Prune => out.push_str("prune"),
-        Event::Restart => out.push_str("restart"),
-    }
-}
 
 // Returns how an event is marked.
 fn mark(is_next: bool) -> &'static str

@@ -1,11 +1,10 @@
 -- Places at which what was found differs.
-use Rattle.std.proofs.Common.{◌≡◌, ℕ, ◌<◌, ◌⊎◌, inl, inr, cond, Option, None, Some, Result, Ok, Err, is_ok, List, [], ◌∷◌, ◌++◌, length, get_or, refl, sym, ap, subst, ◌∙◌, append_assoc, arith}
-use Rattle.std.specs.Prelude.{OnOk, slice_get, unwrap_or}
-use Rattle.std.specs.Option.{option_map}
+use Rattle.std.proofs.Common.{◌≡◌, ℕ, ◌<◌, ◌⊎◌, inl, inr, cond, Option, Some, Result, Ok, Err, is_ok, List, [], ◌∷◌, ◌++◌, length, get_or, sym, ap, subst, ◌∙◌, append_assoc, arith}
+use Rattle.std.specs.Prelude.{OnOk, slice_get}
 use Rattle.std.proofs.Math.Seq.{get_or-append_seam}
 use Rattle.std.proofs.lemmas.Bool.Decides.{eqb_tells}
 use Rattle.std.proofs.lemmas.List.{get_or_append_left, length-append}
-use Rattle.std.proofs.lemmas.Option.{get_or_from_slice_get, slice_get-get_or, slice_get_within, unwrap_or-slice_get}
+use Rattle.std.proofs.lemmas.Option.{get_or_from_slice_get, slice_get-get_or, slice_get_within}
 use Rattle.om_explore_command.specs.Differences.{DifferFirst}
 use Rattle.om_explore_command.specs.ExplorationText.{DifferAt}
 use Rattle.om_explore_command.specs.declared.difference.TextPosition.{TextPosition}
@@ -45,14 +44,6 @@ places_more n found places first this p at_first at_this differ before k one oth
 -- what is read at a place stands there
 pub read_at : {X : Type 0} (xs : List X) (i : ℕ) (x : X) → i < length xs → x ≡ get_or xs i x → slice_get xs i ≡ Some x
 read_at xs i x low is = slice_get-get_or xs i x low ∙ ap Some (sym is)
-
-first_or_none : (o : Option (List ℕ × ℕ)) → None ≡ option_map (λ e. e.0) o → [] ≡ (unwrap_or o ([], 0)).0
-first_or_none None none = refl
-first_or_none (Some e) none = cc
-
--- a process that is not there has no name
-pub no_name : (es : List (List ℕ × ℕ)) (p : ℕ) → None ≡ option_map (λ e. e.0) (slice_get es p) → [] ≡ (get_or es p ([], 0)).0
-no_name es p none = first_or_none (slice_get es p) none ∙ ap (λ e. e.0) (unwrap_or-slice_get es p ([], 0))
 
 -- where the elements are read so
 pub read_two : {X Y : Type 0} (R : Y → Y → Type 0) (f : X → Y) (xs : List X) (i j : ℕ) (x y : X) → x ≡ get_or xs i x → y ≡ get_or xs j y

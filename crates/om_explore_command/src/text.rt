@@ -5,7 +5,6 @@ ghost use Rattle.std.specs.List.{flat_map, list_any, range_with_len};
 ghost use Rattle.std.specs.Option.{option_map};
 ghost use Rattle.om_manager.specs.Outputs.{held_of};
 ghost use Rattle.om_process.specs.declared.status.Status.TheVariants.{Ready};
-ghost use Rattle.om_commands.specs.SimText.{name_at};
 ghost use Rattle.om_run_commands.specs.Run.{outputs_of};
 ghost use Rattle.om_explore_command.specs.ExplorationText.{ArePlaces, IsExplorationText, difference_text, found_line, found_text, is_waiting, output_text, place_text, runs_text, texts_text, waiter_text, waiting_text};
 ghost use Rattle.om_explore_command.specs.steps.{AreOf, OfCluster};
@@ -13,7 +12,8 @@ ghost use Rattle.om_explore_command.specs.steps.{AreOf, OfCluster};
 use crate::difference::{TextPosition, first_difference};
 use crate::exploration::Exploration;
 use crate::tally::Found;
-use om_commands::{BytesForm, push_bytes_in, push_status};
+use om_commands::{BytesForm, name_of, push_bytes_in};
+use om_event_text::push_status;
 use om_manager::Output;
 use om_process::Status;
 use om_runner::Report;
@@ -21,16 +21,6 @@ use om_scripts::Programs;
 use sha2::{Digest, Sha256};
 use std::alloc::{AllocError, Global};
 use std::fmt::Write;
-
-// Returns the name of a process.
-fn name_of(programs: &Programs, process: usize) -> &str
-    ensures { result.now ≡ name_at programs.now process }
-{
-    match programs.name(process) {
-        Some(name) => name,
-        None => "",
-    }
-}
 
 // Returns whether a process waits.
 fn waits(status: Status) -> bool

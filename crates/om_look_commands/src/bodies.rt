@@ -131,6 +131,21 @@ fn shown(alloc: Global, bytes: &DatabaseBytes, form: BytesForm) -> Result<Vec<u8
     }
 }
 
+// Returns the text that `show_bodies_in` writes of a store of five tables,
+// whatever these lie in: a call at files is dear to prove.
+fn text_of_five<D: Alter + Drop>(
+    alloc: Global,
+    store: &mut SqlLedger<D>,
+    form: BytesForm,
+) -> Result<Vec<u8>, CommandError>
+    ensures error { IfErr result IsNoMatterOfContent }
+    ensures silent { result ≢ Err CommandError.CannotWrite }
+{
+    let mut text = Vec::new(alloc);
+    in_memory(show_all_bodies(alloc, store, form, &mut text))?;
+    Ok(text)
+}
+
 // Returns the text that `show_bodies_in` writes of a store of five tables.
 #[inline(never)]
 fn shown_of_five(
@@ -141,9 +156,9 @@ fn shown_of_five(
     ensures error { IfErr result IsNoMatterOfContent }
     ensures silent { result ≢ Err CommandError.CannotWrite }
 {
-    let mut text = Vec::new(alloc);
-    in_memory(show_all_bodies(alloc, &mut store, form, &mut text))?;
-    Ok(text)
+    let text = text_of_five(alloc, &mut store, form);
+    drop(store);
+    text
 }
 
 // Returns the text that `show_bodies_in` writes of a store of two tables.

@@ -90,6 +90,22 @@ fn stepped(
     }
 }
 
+// Returns the text that `steps_in` writes of a store of five tables,
+// whatever these lie in: a call at files is dear to prove.
+fn text_of_five<D: Alter + Drop>(
+    alloc: Global,
+    store: &mut SqlLedger<D>,
+    interval: u32,
+    steps: u64,
+    traced: bool,
+) -> Result<Vec<u8>, CommandError>
+    ensures silent { result ≢ Err CommandError.CannotWrite }
+{
+    let mut text = Vec::new(alloc);
+    in_memory(replay_steps(alloc, store, interval, steps, traced, &mut text))?;
+    Ok(text)
+}
+
 // Returns the text that `steps_in` writes of a store of five tables.
 #[inline(never)]
 fn stepped_of_five(
@@ -101,9 +117,9 @@ fn stepped_of_five(
 ) -> Result<Vec<u8>, CommandError>
     ensures silent { result ≢ Err CommandError.CannotWrite }
 {
-    let mut text = Vec::new(alloc);
-    in_memory(replay_steps(alloc, &mut store, interval, steps, traced, &mut text))?;
-    Ok(text)
+    let text = text_of_five(alloc, &mut store, interval, steps, traced);
+    drop(store);
+    text
 }
 
 // Returns the text that `steps_in` writes of a store of two tables.

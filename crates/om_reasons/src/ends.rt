@@ -1,7 +1,6 @@
 //! Which processes of a run have ended, for whoever is told that it came to no end.
 
 ghost use Rattle.std.specs.Prelude.{◌≡◌, ◌++◌, IfOk, OnOk, string_bytes};
-ghost use Rattle.om_commands.specs.SimText.{name_at};
 ghost use Rattle.om_reasons.specs.Ends.{doing_line, ends_text, status_line};
 
 use om_commands::name_of;
@@ -26,20 +25,9 @@ fn push_ends(text: &mut String, programs: &Programs, sights: &[Sight]) -> Result
     ensures { OnOk result (string_bytes text.new ≡ string_bytes text.old ++ ends_text programs.now sights.now) }
 {
     for p in 0..sights.len() {
-        push_end(text, name_in(programs, p), sights[p].doing)?;
+        push_end(text, name_of(programs, p), sights[p].doing)?;
     }
     Ok(())
-}
-
-// Returns the name of a process, and an empty one where there is no such process.
-fn name_in(programs: &Programs, p: usize) -> &str
-    ensures { result.now ≡ name_at programs.now p }
-{
-    if p < programs.n() {
-        name_of(programs, p)
-    } else {
-        ""
-    }
 }
 
 // Writes the line of a process, where it has ended.

@@ -1,3 +1,3 @@
 pub mod HarvestLemmas
 pub mod ReleasedLemmas
-mod FollowLemmas
+pub mod FollowLemmas

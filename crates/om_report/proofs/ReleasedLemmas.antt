@@ -4,7 +4,7 @@ use Rattle.std.specs.Prelude.{Vec, slice_get, slice_index}
 use Rattle.std.specs.declared.alloc.Global.{Global}
 use Rattle.std.proofs.lemmas.Bool.{cases_order, le-leb, lt-leb}
 use Rattle.std.proofs.lemmas.List.{get_or-map, length-map}
-use Rattle.std.proofs.lemmas.Option.{get_or_from_slice_get, same_Some, slice_get_within}
+use Rattle.std.proofs.lemmas.Option.{get_or_from_slice_get, same_Some, slice_get-get_or, slice_get_within}
 use Rattle.om_manager.specs.Outputs.{AreNumbered, HeldOutput, held_of, within}
 use Rattle.om_manager.specs.State.{ManagerState, held_by, process_count, released_by}
 use Rattle.om_manager.specs.declared.output_log.Output.{Output}
@@ -26,7 +26,7 @@ at_first : (x : HeldOutput) (rest : List HeldOutput) (limit j : ℕ) (y : HeldOu
 at_first x rest limit zero y inside later at = subst (λ (z : HeldOutput). z.interval ≤ limit) (same_Some x y at) inside
 at_first x rest limit (suc j) y inside later at = later j at
 
-within_limit : (xs : List HeldOutput) (limit i : ℕ) (y : HeldOutput) → slice_get (within xs limit) i ≡ Some y → y.interval ≤ limit
+pub within_limit : (xs : List HeldOutput) (limit i : ℕ) (y : HeldOutput) → slice_get (within xs limit) i ≡ Some y → y.interval ≤ limit
 within_limit [] limit i y e = absurd (none_in i y e)
 within_limit (x ∷ xs) limit i y e = elim (cases_le_lt x.interval limit) [
   | inl inside ↦ at_first x (within xs limit) limit i y inside (λ k at. within_limit xs limit k y at)
@@ -46,6 +46,9 @@ released_at m p outputs held numbered i o there = (
   subst (λ (x : Output). x.seq ≡ i) (get_or_from_slice_get outputs i o o there) (numbered i o (slice_get_within outputs i o there)),
   within_limit (held_by m p) (slice_index m.recovery p) i (held_of o) (subst (λ hs. slice_get hs i ≡ Some (held_of o)) held (map_get held_of outputs i o there)),
 )
+
+pub numbered_of : (limit : ℕ) (outputs : List Output) → AreReleased limit outputs → AreNumbered outputs
+numbered_of limit outputs are place d lt = (are place (get_or outputs place d) (slice_get-get_or outputs place d lt)).0
 
 pub all_released : (m : ManagerState) (released : List (Vec Output Global)) → AreReleasedBy m released → AreAllReleased m.recovery released
 all_released m released are p outputs at = let both = are p outputs at in released_at m p outputs.items both.0 both.1

@@ -1,5 +1,5 @@
 -- What a process leaves when its run is over.
-use Rattle.std.specs.Prelude.{◌≡◌, ℕ, ◌≤◌, List, Some, Vec, length, map, slice_get, slice_index}
+use Rattle.std.specs.Prelude.{◌≡◌, ℕ, List, Some, Vec, map, slice_get, slice_index}
 use Rattle.std.specs.declared.alloc.Global.{Global}
 use mathlib.Core.List.{IsPrefix}
 use Rattle.om_board.specs.Fronts.{EndsWith, IsPosted}
@@ -33,11 +33,6 @@ AreOwn harvests = (p : ℕ) (h : HarvestState) → slice_get harvests p ≡ Some
 -- the outputs of each harvest
 abbrev pub harvested : List HarvestState → List (Vec Output Global)
 harvested harvests = map (λ h. h.outputs) harvests
-
--- by process, the second are as many as the first, or more
-abbrev pub AreNoFewer : List (Vec Output Global) → List (Vec Output Global) → Type 0
-AreNoFewer few more = (p : ℕ) (low high : Vec Output Global) → slice_get few p ≡ Some low → slice_get more p ≡ Some high
-    → length low.items ≤ length high.items
 
 -- these are all that this manager has released of a process
 abbrev pub AreAllOf : ManagerState → ℕ → List Output → Type 0

@@ -1,13 +1,15 @@
 //! The outputs of a process that a follower is told of.
 
-ghost use Rattle.std.specs.Prelude.{◌≤◌, vec_len};
+ghost use Rattle.std.specs.VecDeque.{deque_len};
+ghost use Rattle.std.specs.Prelude.{◌≤◌};
 
 use om_manager::Output;
+use std::collections::VecDeque;
 
-/// The outputs of a process that are released and were copied, and of how many of them the follower was told.
+/// What is kept of the released outputs of a process: how many were copied, and those of them that are still to be told.
 #[derive(Drop)]
 pub struct FollowedOutputs {
-    pub outputs: Vec<Output>,
-    pub told: usize,
-    ghost within: { told ≤ vec_len outputs },
+    pub copied: usize,
+    pub fresh: VecDeque<Output>,
+    ghost within: { deque_len fresh ≤ copied },
 }

@@ -6,7 +6,6 @@ ghost use Rattle.om_report.specs.Telling.{Told, told_of};
 use crate::fault::RunFault;
 use om_interval::Pid;
 use om_manager::Output;
-use thiserror::Error;
 
 /// Is told of the outputs of a cluster as they are released.
 pub trait Follower: Drop {
@@ -24,12 +23,10 @@ pub trait Follower: Drop {
 }
 
 /// Why a run that is followed came to no end.
-#[derive(Clone, Copy, Debug, PartialEq, Eq, Error)]
+#[derive(Clone, Copy, Debug, PartialEq, Eq)]
 pub enum FollowFault {
     /// The run itself came to none.
-    #[error("{0}")]
     Run(RunFault),
     /// The follower wanted no more.
-    #[error("not followed")]
     Unwanted,
 }

@@ -1,35 +1,34 @@
 //! A follower while the cluster runs.
 
-ghost use Rattle.std.specs.Prelude.{◌≡◌, ◌≢◌, ◌≤◌, ◌↔◌, ℕ, List, [], None, Some, Vec, IfErr, IfOk, IsTrue, OnOk, length, map, slice_get, vec_len};
-ghost use Rattle.std.specs.declared.alloc.Global.{Global};
+ghost use Rattle.std.specs.Prelude.{◌≡◌, ◌≢◌, ◌≤◌, ◌↔◌, ℕ, List, [], None, Some, IfErr, IfOk, IsOk, IsTrue, OnOk, length, map, slice_get, vec_len};
 ghost use Rattle.om_board.specs.Boards.{IsBoard};
 ghost use Rattle.om_board.specs.Made.{HoldsMade};
 ghost use Rattle.om_interval.specs.declared.pid.TheConstants.{MAX_PROCESSES};
-ghost use Rattle.om_manager.specs.State.{process_count};
-ghost use Rattle.om_manager.specs.declared.output_log.Output.{Output};
-ghost use Rattle.om_process.specs.Process.{Program};
-ghost use Rattle.om_report.specs.Released.{AreAllMade, AreAllReleased, AreMade, AreReleased};
-ghost use Rattle.om_report.specs.Telling.{AreInOrder, AreToldMade, TellsAll, Told};
+ghost use Rattle.om_manager.specs.Outputs.{AreNumbered, held_of};
+ghost use Rattle.om_manager.specs.State.{process_count, released_by};
+ghost use Rattle.om_report.specs.Released.{AreAllMade, AreAllReleased};
+ghost use Rattle.om_report.specs.Telling.{AreInOrder, AreToldMade, Told};
 ghost use Rattle.om_report.specs.declared.follower.FollowFault.TheVariants.{Unwanted};
-ghost use Rattle.om_report.specs.Following.{AreEmpty, AreTold, IsFollowed, told_in};
-ghost use Rattle.om_report.specs.steps.Lanes.{AreKept, AreLanesMade, HasTold, HaveTold, StayKept};
-ghost use Rattle.om_report.specs.Harvests.{AreNoFewer, AreOwn, harvested};
+ghost use Rattle.om_report.specs.Following.{AreAllCopied, AreEmpty, AreTold, IsEmpty, IsFollowed};
+ghost use Rattle.om_report.specs.steps.Lanes.{AreMore, HasTold, HaveMore, HaveTold, IsBehind, IsMore, held_in};
+ghost use Rattle.om_report.specs.Harvests.{AreOwn, harvested};
 
 use crate::fault::RunFault;
 use crate::followed_outputs::FollowedOutputs;
 use crate::follower::{FollowFault, Follower};
 use crate::harvest::{Harvest, all_met};
 use crate::released::copy_of;
-use crate::report::Report;
+use crate::report::FollowedReport;
 use om_board::{Board, Front, Frontier, Naming, Pass, Shared};
 use om_interval::{MAX_PROCESSES, Pid};
 use om_manager::{Manager, Output};
 use om_observers::{Herald, Release};
 use om_process::Status;
 use std::alloc::{AllocError, Global};
+use std::collections::VecDeque;
 use std::sync::Wait;
 
-/// Holds a follower, and what is released as far as it looked.
+/// Holds a follower, and what is released and still to be told, as far as it looked.
 #[derive(Drop)]
 pub struct Following<'a, K: Naming, F: Follower> {
     herald: &'a Herald,
@@ -39,23 +38,21 @@ pub struct Following<'a, K: Naming, F: Follower> {
     pub lanes: Vec<FollowedOutputs>,
     /// Why the run is to come to no end.
     pub fault: Option<FollowFault>,
-    // As it was when it looked last.
-    front: Front,
+    /// The front that it read last.
+    pub front: Front,
     pass: Pass<K>,
     ghost many: { vec_len lanes ≡ K.cell.n },
     ghost few: { K.cell.n ≤ MAX_PROCESSES },
-    ghost kept: { AreKept front.vec lanes.items },
-    ghost stay: { StayKept pass lanes.items },
-    ghost made: { K.OverClean → AreLanesMade K.programs K.cell.n lanes.items },
+    ghost behind: { IsBehind pass front },
 }
 
 // Makes a lane without an output.
 fn empty_lane(alloc: Global) -> FollowedOutputs
-    ensures { result.outputs.items ≡ [] }
+    ensures { IsEmpty result }
 {
     FollowedOutputs {
-        outputs: Vec::new(alloc),
-        told: 0,
+        copied: 0,
+        fresh: VecDeque::new(alloc),
     }
 }
 
@@ -71,22 +68,20 @@ fn empty_lanes(alloc: Global, n: usize) -> Result<Vec<FollowedOutputs>, AllocErr
     Ok(lanes)
 }
 
-// Adds what is released of a process beyond what is there.
+// Copies what is released of a process and was not copied yet.
 fn add_new(alloc: Global, lane: &mut FollowedOutputs, released: &[Output]) -> Result<(), AllocError>
-    ensures same { (p : ℕ) → told_in p (Some lane.new) ≡ told_in p (Some lane.old) }
-    ensures kept { (limit : ℕ) → AreReleased limit lane.old.outputs.items → AreReleased limit released.now
-        → AreReleased limit lane.new.outputs.items }
-    ensures made { (programs : List Program) (n p : ℕ) → AreMade programs n p lane.old.outputs.items → AreMade programs n p released.now
-        → AreMade programs n p lane.new.outputs.items }
-    ensures all { OnOk result (length released.now ≤ length lane.new.outputs.items) }
+    requires { AreNumbered released.now }
+    ensures more { IsMore (map held_of released.now) lane.old lane.new }
+    ensures all { OnOk result (length released.now ≤ lane.new.copied) }
 {
-    for i in lane.outputs.len()..released.len() {
-        lane.outputs.push(copy_of(alloc, &released[i])?)?;
+    for i in lane.copied..released.len() {
+        lane.fresh.push_back(copy_of(alloc, &released[i])?)?;
+        lane.copied = i + 1;
     }
     Ok(())
 }
 
-// Adds what the manager has released beyond what is there.
+// Copies what the manager has released and was not copied yet.
 fn add_all(
     alloc: Global,
     lanes: &mut Vec<FollowedOutputs>,
@@ -94,10 +89,7 @@ fn add_all(
 ) -> Result<(), AllocError>
     requires { vec_len lanes.old ≡ process_count manager.now }
     ensures many { vec_len lanes.new ≡ vec_len lanes.old }
-    ensures same { (p : ℕ) → told_in p (slice_get lanes.new.items p) ≡ told_in p (slice_get lanes.old.items p) }
-    ensures kept { AreKept manager.now.recovery lanes.old.items → AreKept manager.now.recovery lanes.new.items }
-    ensures made { (programs : List Program) (n : ℕ) → HoldsMade programs n manager.now → AreLanesMade programs n lanes.old.items
-        → AreLanesMade programs n lanes.new.items }
+    ensures more { AreMore (released_by manager.now) lanes.old.items lanes.new.items }
 {
     for p in 0..manager.recovery().n() {
         add_new(alloc, &mut lanes[p], manager.released(Pid::at(p)))?;
@@ -105,19 +97,17 @@ fn add_all(
     Ok(())
 }
 
-// Adds these outputs beyond what is there.
+// Copies of these outputs those that were not copied yet.
 fn add_brought(
     alloc: Global,
     lanes: &mut Vec<FollowedOutputs>,
     brought: &[Vec<Output>],
 ) -> Result<(), AllocError>
-    requires { length brought.now ≡ vec_len lanes.old }
+    requires many { length brought.now ≡ vec_len lanes.old }
+    requires numbered { (p : ℕ) (outputs : _) → slice_get brought.now p ≡ Some outputs → AreNumbered outputs.items }
     ensures many { vec_len lanes.new ≡ vec_len lanes.old }
-    ensures same { (p : ℕ) → told_in p (slice_get lanes.new.items p) ≡ told_in p (slice_get lanes.old.items p) }
-    ensures kept { (vec : List ℕ) → AreAllReleased vec brought.now → AreKept vec lanes.old.items → AreKept vec lanes.new.items }
-    ensures made { (programs : List Program) (n : ℕ) → AreAllMade programs n brought.now → AreLanesMade programs n lanes.old.items
-        → AreLanesMade programs n lanes.new.items }
-    ensures all { OnOk result (AreNoFewer brought.now (map (λ lane. lane.outputs) lanes.new.items)) }
+    ensures more { AreMore (held_in brought.now) lanes.old.items lanes.new.items }
+    ensures all { OnOk result (AreAllCopied brought.now lanes.new.items) }
 {
     for p in 0..brought.len() {
         add_new(alloc, &mut lanes[p], &brought[p])?;
@@ -125,7 +115,7 @@ fn add_brought(
     Ok(())
 }
 
-// Adds what the workers brought back beyond what is there.
+// Copies of what the workers brought back what was not copied yet.
 fn add_harvests<K: Naming, R: Wait>(
     rt: &R,
     alloc: Global,
@@ -139,32 +129,32 @@ fn add_harvests<K: Naming, R: Wait>(
     requires each { length harvests.items ≡ vec_len lanes.old }
     ensures board { board.new ≡ board.old }
     ensures many { vec_len lanes.new ≡ vec_len lanes.old }
-    ensures same { (p : ℕ) → told_in p (slice_get lanes.new.items p) ≡ told_in p (slice_get lanes.old.items p) }
-    ensures kept { AreKept board.old.manager.recovery lanes.old.items → AreKept board.old.manager.recovery lanes.new.items }
-    ensures made { K.OverClean → AreLanesMade K.programs K.cell.n lanes.old.items → AreLanesMade K.programs K.cell.n lanes.new.items }
-    ensures all { OnOk result (AreNoFewer (harvested harvests.items) (map (λ lane. lane.outputs) lanes.new.items)) }
+    ensures more { HaveMore K.programs K.cell.n K.OverClean board.old.manager.recovery lanes.old.items lanes.new.items }
+    ensures all { OnOk result (AreAllCopied (harvested harvests.items) lanes.new.items) }
 {
     let brought = all_met(rt, alloc, frontier, board, harvests)?;
     add_brought(alloc, lanes, &brought)
 }
 
-// Tells of the outputs of a process below a number, those that are there.
+// Tells of the outputs of a process below a number, those that are still to be told.
 fn tell_below<F: Follower>(
     follower: &mut F,
     lane: &mut FollowedOutputs,
     pid: Pid,
     below: usize,
 ) -> bool
-    ensures outputs { lane.new.outputs ≡ lane.old.outputs }
+    ensures copied { lane.new.copied ≡ lane.old.copied }
     ensures told { IsTrue result → HasTold F.Tells pid lane.old follower.old lane.new follower.new }
-    ensures all { IsTrue result → vec_len lane.old.outputs ≤ below → lane.new.told ≡ vec_len lane.new.outputs }
+    ensures all { IsTrue result → lane.old.copied ≤ below → lane.new.fresh.items ≡ [] }
 {
-    let end = below.min(lane.outputs.len());
-    for i in lane.told..end {
-        if !follower.tell(pid, &lane.outputs[i]) {
+    let told = lane.copied - lane.fresh.len();
+    for _ in told..below {
+        let Some(output) = lane.fresh.pop_front() else {
+            return true;
+        };
+        if !follower.tell(pid, &output) {
             return false;
         }
-        lane.told = i + 1;
     }
     true
 }
@@ -176,8 +166,7 @@ fn tell_release<F: Follower>(
     release: Release,
 ) -> bool
     ensures many { vec_len lanes.new ≡ vec_len lanes.old }
-    ensures outputs { map (λ lane. lane.outputs) lanes.new.items ≡ map (λ lane. lane.outputs) lanes.old.items }
-    ensures kept { (vec : List ℕ) → AreKept vec lanes.old.items → AreKept vec lanes.new.items }
+    ensures copied { map (λ lane. lane.copied) lanes.new.items ≡ map (λ lane. lane.copied) lanes.old.items }
     ensures told { IsTrue result → HaveTold F.Tells lanes.old.items follower.old lanes.new.items follower.new }
 {
     let Release { process, below } = release;
@@ -195,8 +184,7 @@ fn tell_in_order<F: Follower>(
     releases: &[Release],
 ) -> bool
     ensures many { vec_len lanes.new ≡ vec_len lanes.old }
-    ensures outputs { map (λ lane. lane.outputs) lanes.new.items ≡ map (λ lane. lane.outputs) lanes.old.items }
-    ensures kept { (vec : List ℕ) → AreKept vec lanes.old.items → AreKept vec lanes.new.items }
+    ensures copied { map (λ lane. lane.copied) lanes.new.items ≡ map (λ lane. lane.copied) lanes.old.items }
     ensures told { IsTrue result → HaveTold F.Tells lanes.old.items follower.old lanes.new.items follower.new }
 {
     for release in releases {
@@ -207,24 +195,24 @@ fn tell_in_order<F: Follower>(
     true
 }
 
-// Tells of all that is there.
+// Tells of all that is still to be told.
 fn tell_rest<F: Follower>(follower: &mut F, lanes: &mut Vec<FollowedOutputs>) -> bool
     requires { vec_len lanes.old ≤ MAX_PROCESSES }
     ensures many { vec_len lanes.new ≡ vec_len lanes.old }
-    ensures outputs { map (λ lane. lane.outputs) lanes.new.items ≡ map (λ lane. lane.outputs) lanes.old.items }
-    ensures kept { (vec : List ℕ) → AreKept vec lanes.old.items → AreKept vec lanes.new.items }
+    ensures copied { map (λ lane. lane.copied) lanes.new.items ≡ map (λ lane. lane.copied) lanes.old.items }
     ensures told { IsTrue result → HaveTold F.Tells lanes.old.items follower.old lanes.new.items follower.new }
     ensures all { IsTrue result → AreTold lanes.new.items }
 {
     for p in 0..lanes.len() {
-        if !tell_below(follower, &mut lanes[p], Pid::at(p), usize::MAX) {
+        let copied = lanes[p].copied;
+        if !tell_below(follower, &mut lanes[p], Pid::at(p), copied) {
             return false;
         }
     }
     true
 }
 
-// Tells of all that is there: in the order of its release, as far as that is known.
+// Tells of all that is still to be told: in the order of its release, as far as that is known.
 fn tell_all<F: Follower>(
     follower: &mut F,
     lanes: &mut Vec<FollowedOutputs>,
@@ -232,8 +220,7 @@ fn tell_all<F: Follower>(
 ) -> bool
     requires { vec_len lanes.old ≤ MAX_PROCESSES }
     ensures many { vec_len lanes.new ≡ vec_len lanes.old }
-    ensures outputs { map (λ lane. lane.outputs) lanes.new.items ≡ map (λ lane. lane.outputs) lanes.old.items }
-    ensures kept { (vec : List ℕ) → AreKept vec lanes.old.items → AreKept vec lanes.new.items }
+    ensures copied { map (λ lane. lane.copied) lanes.new.items ≡ map (λ lane. lane.copied) lanes.old.items }
     ensures told { IsTrue result → HaveTold F.Tells lanes.old.items follower.old lanes.new.items follower.new }
     ensures all { IsTrue result → AreTold lanes.new.items }
 {
@@ -246,16 +233,27 @@ fn tell_all<F: Follower>(
     follower.pause()
 }
 
-// Returns the outputs of each lane.
-fn outputs_of(alloc: Global, lanes: Vec<FollowedOutputs>) -> Result<Vec<Vec<Output>>, AllocError>
-    ensures { IfOk result (λ outputs. outputs.items ≡ map (λ lane. lane.outputs) lanes.items) }
+// Returns why the run is to come to no end, after outputs were copied: the first cause stays.
+fn fault_of_copy(fault: Option<FollowFault>, copied: Result<(), AllocError>) -> Option<FollowFault>
+    ensures unwanted { fault ≡ Some Unwanted → result ≡ Some Unwanted }
+    ensures none { result ≡ None → IsOk copied }
 {
-    let mut all = Vec::with_capacity(alloc, lanes.len())?;
-    for lane in lanes {
-        let FollowedOutputs { outputs, .. } = lane;
-        all.push_reserved(outputs);
+    match copied {
+        Ok(()) => fault,
+        Err(_) => fault.or(Some(FollowFault::Run(RunFault::Memory))),
     }
-    Ok(all)
+}
+
+// Returns why the run is to come to no end, after the follower was told: it may want no more.
+fn fault_of_wish(fault: Option<FollowFault>, goes_on: bool) -> Option<FollowFault>
+    ensures on { result ≢ Some Unwanted → IsTrue goes_on }
+    ensures same { result ≢ Some Unwanted → result ≡ fault }
+{
+    if goes_on {
+        fault
+    } else {
+        Some(FollowFault::Unwanted)
+    }
 }
 
 impl<'a, K: Naming, F: Follower> Following<'a, K, F> {
@@ -280,14 +278,15 @@ impl<'a, K: Naming, F: Follower> Following<'a, K, F> {
         let Ok(lanes) = empty_lanes(alloc, manager.recovery().n()) else {
             return Err(follower);
         };
-        Ok(Following {
+        let following = Following {
             herald,
             follower,
             lanes,
             fault: None,
             front,
             pass,
-        })
+        };
+        Ok(following)
     }
 
     // Copies what is released by now, and gives the order in which it was, as far as that is known.
@@ -297,14 +296,14 @@ impl<'a, K: Naming, F: Follower> Following<'a, K, F> {
         alloc: Global,
         shared: &Shared<K>,
     ) -> (Following<'a, K, F>, Vec<Release>)
-        ensures followed { (start : F) → IsFollowed F.Tells start self.entry.lanes.items self.entry.fault self.entry.follower
-            → IsFollowed F.Tells start result.0.lanes.items result.0.fault result.0.follower }
+        ensures followed { (start : F) → IsFollowed F.Tells K.OverClean K.programs K.cell.n self.entry.front.vec start self.entry.lanes.items self.entry.fault self.entry.follower
+            → IsFollowed F.Tells K.OverClean K.programs K.cell.n result.0.front.vec start result.0.lanes.items result.0.fault result.0.follower }
     {
         let Following {
             herald,
             follower,
             mut lanes,
-            mut fault,
+            fault,
             pass,
             ..
         } = self;
@@ -312,14 +311,12 @@ impl<'a, K: Naming, F: Follower> Following<'a, K, F> {
         let board = &mut *guard;
         let (front, pass) = shared.frontier.meet(rt, board, pass);
         let releases = herald.releases(rt);
-        if add_all(alloc, &mut lanes, board.manager()).is_err() {
-            fault = fault.or(Some(FollowFault::Run(RunFault::Memory)));
-        }
+        let copied = add_all(alloc, &mut lanes, board.manager());
         let following = Following {
             herald,
             follower,
             lanes,
-            fault,
+            fault: fault_of_copy(fault, copied),
             front,
             pass,
         };
@@ -328,29 +325,27 @@ impl<'a, K: Naming, F: Follower> Following<'a, K, F> {
 
     // Tells of all that is there.
     fn tell(self, releases: &[Release]) -> Following<'a, K, F>
-        ensures followed { (start : F) → IsFollowed F.Tells start self.entry.lanes.items self.entry.fault self.entry.follower
-            → IsFollowed F.Tells start result.lanes.items result.fault result.follower }
+        ensures followed { (start : F) → IsFollowed F.Tells K.OverClean K.programs K.cell.n self.entry.front.vec start self.entry.lanes.items self.entry.fault self.entry.follower
+            → IsFollowed F.Tells K.OverClean K.programs K.cell.n result.front.vec start result.lanes.items result.fault result.follower }
         ensures all { result.fault ≡ None → AreTold result.lanes.items }
-        ensures outputs { map (λ lane. lane.outputs) result.lanes.items ≡ map (λ lane. lane.outputs) self.entry.lanes.items }
+        ensures copied { map (λ lane. lane.copied) result.lanes.items ≡ map (λ lane. lane.copied) self.entry.lanes.items }
         ensures fault { result.fault ≡ None → self.entry.fault ≡ None }
     {
         let Following {
             herald,
             mut follower,
             mut lanes,
-            mut fault,
+            fault,
             front,
             pass,
             ..
         } = self;
-        if !tell_all(&mut follower, &mut lanes, releases) {
-            fault = Some(FollowFault::Unwanted);
-        }
+        let goes_on = tell_all(&mut follower, &mut lanes, releases);
         Following {
             herald,
             follower,
             lanes,
-            fault,
+            fault: fault_of_wish(fault, goes_on),
             front,
             pass,
         }
@@ -358,8 +353,8 @@ impl<'a, K: Naming, F: Follower> Following<'a, K, F> {
 
     /// Tells of what was released by now, in the order in which it was. The lock is held only to copy what is new.
     pub fn look<R: Wait>(self, rt: &R, alloc: Global, shared: &Shared<K>) -> Following<'a, K, F>
-        ensures followed { (start : F) → IsFollowed F.Tells start self.entry.lanes.items self.entry.fault self.entry.follower
-            → IsFollowed F.Tells start result.lanes.items result.fault result.follower }
+        ensures followed { (start : F) → IsFollowed F.Tells K.OverClean K.programs K.cell.n self.entry.front.vec start self.entry.lanes.items self.entry.fault self.entry.follower
+            → IsFollowed F.Tells K.OverClean K.programs K.cell.n result.front.vec start result.lanes.items result.fault result.follower }
         ensures all { result.fault ≡ None → AreTold result.lanes.items }
     {
         if self.fault == Some(FollowFault::Unwanted) {
@@ -379,15 +374,15 @@ impl<'a, K: Naming, F: Follower> Following<'a, K, F> {
     ) -> (Following<'a, K, F>, Vec<Release>)
         requires own { AreOwn harvests.items }
         requires each { length harvests.items ≡ K.cell.n }
-        ensures followed { (start : F) → IsFollowed F.Tells start self.entry.lanes.items self.entry.fault self.entry.follower
-            → IsFollowed F.Tells start result.0.lanes.items result.0.fault result.0.follower }
-        ensures all { result.0.fault ≡ None → AreNoFewer (harvested harvests.items) (map (λ lane. lane.outputs) result.0.lanes.items) }
+        ensures followed { (start : F) → IsFollowed F.Tells K.OverClean K.programs K.cell.n self.entry.front.vec start self.entry.lanes.items self.entry.fault self.entry.follower
+            → IsFollowed F.Tells K.OverClean K.programs K.cell.n result.0.front.vec start result.0.lanes.items result.0.fault result.0.follower }
+        ensures all { result.0.fault ≡ None → AreAllCopied (harvested harvests.items) result.0.lanes.items }
     {
         let Following {
             herald,
             follower,
             mut lanes,
-            mut fault,
+            fault,
             pass,
             ..
         } = self;
@@ -397,14 +392,12 @@ impl<'a, K: Naming, F: Follower> Following<'a, K, F> {
         let releases = herald.releases(rt);
         // The look tells what holds of every board.
         let _ = board.manager();
-        if add_harvests(rt, alloc, &shared.frontier, board, harvests, &mut lanes).is_err() {
-            fault = fault.or(Some(FollowFault::Run(RunFault::Memory)));
-        }
+        let copied = add_harvests(rt, alloc, &shared.frontier, board, harvests, &mut lanes);
         let following = Following {
             herald,
             follower,
             lanes,
-            fault,
+            fault: fault_of_copy(fault, copied),
             front,
             pass,
         };
@@ -421,10 +414,10 @@ impl<'a, K: Naming, F: Follower> Following<'a, K, F> {
     ) -> Following<'a, K, F>
         requires own { AreOwn harvests.items }
         requires each { length harvests.items ≡ K.cell.n }
-        ensures followed { (start : F) → IsFollowed F.Tells start self.entry.lanes.items self.entry.fault self.entry.follower
-            → IsFollowed F.Tells start result.lanes.items result.fault result.follower }
+        ensures followed { (start : F) → IsFollowed F.Tells K.OverClean K.programs K.cell.n self.entry.front.vec start self.entry.lanes.items self.entry.fault self.entry.follower
+            → IsFollowed F.Tells K.OverClean K.programs K.cell.n result.front.vec start result.lanes.items result.fault result.follower }
         ensures all { result.fault ≡ None → AreTold result.lanes.items }
-        ensures brought { result.fault ≡ None → AreNoFewer (harvested harvests.items) (map (λ lane. lane.outputs) result.lanes.items) }
+        ensures brought { result.fault ≡ None → AreAllCopied (harvested harvests.items) result.lanes.items }
     {
         if self.fault == Some(FollowFault::Unwanted) {
             return self;
@@ -441,8 +434,8 @@ impl<'a, K: Naming, F: Follower> Following<'a, K, F> {
         shared: &Shared<K>,
         n: usize,
     ) -> Following<'a, K, F>
-        ensures { (start : F) → IsFollowed F.Tells start self.entry.lanes.items self.entry.fault self.entry.follower
-            → IsFollowed F.Tells start result.lanes.items result.fault result.follower }
+        ensures { (start : F) → IsFollowed F.Tells K.OverClean K.programs K.cell.n self.entry.front.vec start self.entry.lanes.items self.entry.fault self.entry.follower
+            → IsFollowed F.Tells K.OverClean K.programs K.cell.n result.front.vec start result.lanes.items result.fault result.follower }
     {
         let mut following = self;
         for _ in rt.forever() {
@@ -465,7 +458,7 @@ impl<'a, K: Naming, F: Follower> Following<'a, K, F> {
     /// Returns why the run came to no end, where the workers came to none, and the follower.
     pub fn into_fault(self, fault: RunFault) -> (FollowFault, F)
         ensures follower { result.1 ≡ self.entry.follower }
-        ensures partly { (start : F) → IsFollowed F.Tells start self.entry.lanes.items self.entry.fault self.entry.follower
+        ensures partly { (start : F) → IsFollowed F.Tells K.OverClean K.programs K.cell.n self.entry.front.vec start self.entry.lanes.items self.entry.fault self.entry.follower
             → result.0 ≢ Unwanted → (told : List Told) × F.Tells start result.1 told × AreInOrder told
             × (K.OverClean → AreToldMade K.programs K.cell.n told) }
     {
@@ -477,44 +470,25 @@ impl<'a, K: Naming, F: Follower> Following<'a, K, F> {
         (own.unwrap_or(FollowFault::Run(fault)), follower)
     }
 
-    /// Returns a report of what the follower was told, or why there is none, and the follower. Refused where the run is to come to
-    /// no end, and where memory runs out.
-    pub fn into_report(
-        self,
-        alloc: Global,
-        statuses: Vec<Status>,
-    ) -> (Result<Report, FollowFault>, F)
-        requires { self.fault ≡ None → AreTold self.lanes.items }
-        ensures released { IfOk result.0 (λ r. AreAllReleased r.front.vec r.released.items) }
-        ensures made { K.OverClean → IfOk result.0 (λ r. AreAllMade K.programs K.cell.n r.released.items) }
-        ensures brought { (few : List (Vec Output Global)) → (self.entry.fault ≡ None → AreNoFewer few (map (λ lane. lane.outputs) self.entry.lanes.items))
-            → IfOk result.0 (λ r. AreNoFewer few r.released.items) }
-        ensures processes { IfOk result.0 (λ r. vec_len r.released ≡ K.cell.n) }
+    /// Returns how the run ended and the follower, or why there is no end. Refused where the run is to come to none.
+    pub fn into_report(self, statuses: Vec<Status>) -> (Result<FollowedReport, FollowFault>, F)
         ensures statuses { IfOk result.0 (λ r. r.statuses ≡ statuses) }
-        ensures told { (start : F) → IsFollowed F.Tells start self.entry.lanes.items self.entry.fault self.entry.follower
-            → IfOk result.0 (λ r. (told : List Told) × F.Tells start result.1 told × TellsAll told r.released.items) }
-        ensures partly { (start : F) → IsFollowed F.Tells start self.entry.lanes.items self.entry.fault self.entry.follower
+        ensures front { IfOk result.0 (λ r. r.front ≡ self.entry.front) }
+        ensures unless { IfOk result.0 (λ r. self.entry.fault ≡ None) }
+        ensures follower { result.1 ≡ self.entry.follower }
+        ensures partly { (start : F) → IsFollowed F.Tells K.OverClean K.programs K.cell.n self.entry.front.vec start self.entry.lanes.items self.entry.fault self.entry.follower
             → IfErr result.0 (λ fault. fault ≢ Unwanted → (told : List Told) × F.Tells start result.1 told × AreInOrder told
             × (K.OverClean → AreToldMade K.programs K.cell.n told)) }
     {
         let Following {
             follower,
-            lanes,
             fault,
             front,
             ..
         } = self;
-        if let Some(fault) = fault {
-            return (Err(fault), follower);
+        match fault {
+            Some(fault) => (Err(fault), follower),
+            None => (Ok(FollowedReport { statuses, front }), follower),
         }
-        let Ok(released) = outputs_of(alloc, lanes) else {
-            return (Err(FollowFault::Run(RunFault::Memory)), follower);
-        };
-        let report = Report {
-            released,
-            statuses,
-            front,
-        };
-        (Ok(report), follower)
     }
 }

@@ -20,4 +20,4 @@ pub use follower::{FollowFault, Follower};
 pub use following::Following;
 pub use harvest::{Harvest, all_met, gathered_in};
 pub use released::{copy_of, released_of};
-pub use report::Report;
+pub use report::{FollowedReport, Report};

@@ -25,6 +25,15 @@ pub struct Report {
     pub front: Front,
 }
 
+/// What a run of a cluster ended with whose outputs were told as they were released.
+#[derive(Debug, Drop)]
+pub struct FollowedReport {
+    /// By process, how it ended.
+    pub statuses: Vec<Status>,
+    /// The last front of the manager that was read.
+    pub front: Front,
+}
+
 // Returns the released outputs of each process.
 fn released_by(alloc: Global, manager: &Manager) -> Result<Vec<Vec<Output>>, AllocError>
     ensures long { IfOk result (λ released. length released.items ≡ process_count manager.now) }

@@ -9,9 +9,9 @@ use Rattle.om_process.specs.Images.{program_of}
 use Rattle.om_process.specs.declared.image.Image.{Image}
 use Rattle.om_process.specs.declared.status.Status.{Status}
 use Rattle.om_scripts.specs.Programs.{Cluster, programs_of}
-use Rattle.om_report.specs.declared.report.Report.{Report}
-use Rattle.om_report.specs.Reports.{IsReport}
-use Rattle.om_runner.specs.Telling.{AreInOrder, AreToldMade, Told, TellsAll}
+use Rattle.om_report.specs.declared.report.FollowedReport.{FollowedReport}
+use Rattle.om_report.specs.Reports.{IsToldReport}
+use Rattle.om_runner.specs.Telling.{AreInOrder, AreToldMade, Told}
 use Rattle.om_report.specs.declared.follower.FollowFault.{FollowFault}
 use Rattle.om_report.specs.declared.follower.FollowFault.TheVariants.{Run, Unwanted}
 use Rattle.om_report.specs.declared.fault.RunFault.{RunFault}
@@ -39,25 +39,25 @@ line_more form cluster a b c told t line before more is =
     in subst (Appends a c) (sym text) (Appends-trans a b c _ _ before (subst (Appends b c) is more))
 
 -- a script is answered by the lines of what its run told, and then by how it ended
-pub text_of_report : {E : Type 0} (form : BytesForm) (over_clean : Type 0) (script : ClusterFile) (cluster : Cluster) (images : List Image) (r : Result Report E) (report : Report)
+pub text_of_report : {E : Type 0} (form : BytesForm) (over_clean : Type 0) (script : ClusterFile) (cluster : Cluster) (images : List Image) (r : Result FollowedReport E) (report : FollowedReport)
     (statuses : List Status) (a b c : Option (List ℕ)) (same_after : Type 0)
     → r ≡ Ok report → cluster ≡ script.cluster → map program_of images ≡ programs_of script.cluster
-    → IfOk r (IsReport over_clean (map program_of images))
-    → IfOk r (λ report. (told : List Told) × (same_after × Appends a b (told_text form cluster told)) × TellsAll told report.released.items)
+    → IfOk r (λ report. (told : List Told) × (same_after × Appends a b (told_text form cluster told))
+    × IsToldReport over_clean (map program_of images) report.statuses.items report.front told)
     → statuses ≡ report.statuses.items → Appends b c (ends_text cluster statuses)
     → (text : List ℕ) × IsFollowedTo form over_clean report.statuses.items script text × Appends a c text
-text_of_report form over_clean script cluster images r report statuses a b c same_after is same programs is_report told same_statuses ends =
-    let all = ok_at (λ report. (told : List Told) × (same_after × Appends a b (told_text form cluster told)) × TellsAll told report.released.items) r report is told in
+text_of_report form over_clean script cluster images r report statuses a b c same_after is same programs told same_statuses ends =
+    let all = ok_at (λ report. (told : List Told) × (same_after × Appends a b (told_text form cluster told)) × IsToldReport over_clean (map program_of images) report.statuses.items report.front told) r report is told in
     let lines : Appends a b (told_text form script.cluster all.0) = subst (λ k. Appends a b (told_text form k all.0)) same all.1.1 in
     let last : Appends b c (ends_text script.cluster report.statuses.items) =
     subst (λ ss. Appends b c (ends_text script.cluster ss)) same_statuses (subst (λ k. Appends b c (ends_text k statuses)) same ends) in (
       told_text form script.cluster all.0 ++ ends_text script.cluster report.statuses.items,
       (
         record {
-          report = report;
-          is_report = subst (λ ps. IsReport over_clean ps report) programs (ok_at (IsReport over_clean (map program_of images)) r report is is_report);
+          statuses = report.statuses.items;
+          front = report.front;
           told = all.0;
-          tells_all = all.2;
+          is_told = subst (λ ps. IsToldReport over_clean ps report.statuses.items report.front all.0) programs all.2;
           is_text = refl;
         },
         (told_text form script.cluster all.0, refl),
@@ -100,7 +100,7 @@ part_told form over_clean script cluster images same_after a b same programs is 
 )
 
 -- of a run that comes to no end what was told is written
-pub part_of_run : (form : BytesForm) (over_clean : Type 0) (script : ClusterFile) (cluster : Cluster) (images : List Image) (r : Result Report FollowFault) (fault : FollowFault)
+pub part_of_run : (form : BytesForm) (over_clean : Type 0) (script : ClusterFile) (cluster : Cluster) (images : List Image) (r : Result FollowedReport FollowFault) (fault : FollowFault)
     (error : CommandError) (same_after : Type 0) (a b : Option (List ℕ)) (none : Type 0)
     → r ≡ Err fault → cluster ≡ script.cluster → map program_of images ≡ programs_of script.cluster
     → (fault ≡ Unwanted → (error ≡ errors.NoMemory) ⊎ (error ≡ errors.CannotWrite)) → ((f : RunFault) → fault ≡ Run f → error ≡ error_of_run f)

@@ -1,26 +1,22 @@
 -- What is written of a run of which the bytes of one process are followed.
 use Rattle.std.proofs.Common.{◌≡◌, ◌≢◌, ◌⊎◌, ℕ, zero, suc, ◌≤◌, ◌==◌, Option, None, Some, Result, Ok, Err, List, [], ◌∷◌, ◌++◌, cond, false, get_or, length, map, refl, sym, ap, subst, ◌∙◌, arith, append-nil}
-use Rattle.std.specs.Prelude.{Vec, IfErr, IfOk, slice_get, slice_index_or}
+use Rattle.std.specs.Prelude.{IfErr, IfOk}
 use Rattle.std.specs.List.{flat_map}
 use Rattle.std.specs.Io.KnownBytes.{Appends, Keeps}
-use Rattle.std.specs.declared.alloc.Global.{Global}
 use Rattle.std.proofs.KnownBytes.{Appends-trans}
 use Rattle.std.proofs.lemmas.Bool.{eq-eqb}
 use Rattle.std.proofs.lemmas.Bool.Decides.{nat_tests}
 use Rattle.std.proofs.lemmas.Grind.{flat_map-append}
 use Rattle.std.proofs.lemmas.List.{length-map}
 use Rattle.std.proofs.lemmas.List.Elements.{filter-append}
-use Rattle.std.proofs.lemmas.List.Folds.{flat_map-map}
-use Rattle.om_manager.specs.Outputs.{HeldOutput, held_of}
-use Rattle.om_manager.specs.declared.output_log.Output.{Output}
 use Rattle.om_process.specs.Images.{program_of}
 use Rattle.om_process.specs.declared.image.Image.{Image}
 use Rattle.om_process.specs.declared.status.Status.{Status}
 use Rattle.om_scripts.specs.Named.{place_of}
 use Rattle.om_scripts.specs.Programs.{programs_of}
-use Rattle.om_report.specs.declared.report.Report.{Report}
-use Rattle.om_report.specs.Reports.{IsReport}
-use Rattle.om_runner.specs.Telling.{AreInOrder, AreToldMade, Told, TellsAll, of_process, outputs_in, told_of}
+use Rattle.om_report.specs.declared.report.FollowedReport.{FollowedReport}
+use Rattle.om_report.specs.Reports.{IsToldReport}
+use Rattle.om_runner.specs.Telling.{AreInOrder, AreToldMade, Told, of_process}
 use Rattle.om_report.specs.declared.follower.FollowFault.{FollowFault}
 use Rattle.om_report.specs.declared.follower.FollowFault.TheVariants.{Run, Unwanted}
 use Rattle.om_report.specs.declared.fault.RunFault.{RunFault}
@@ -28,8 +24,7 @@ use Rattle.om_commands.specs.declared.error.CommandError.{CommandError}
 use Rattle.om_commands.specs.declared.error.CommandError.TheVariants as errors
 use Rattle.om_run_commands.specs.ClusterScript.{ClusterFile}
 use Rattle.om_run_commands.specs.Follow.{IsBytesAnswer, IsFollowedRawAnswer, IsPartOfBytes, IsRawPartOf, bytes_told}
-use Rattle.om_run_commands.specs.Run.{IsByKind, outputs_of}
-use Rattle.om_run_commands.specs.RunText.{bytes_of}
+use Rattle.om_run_commands.specs.Run.{IsByKind}
 use Rattle.om_run_commands.specs.steps.Errors.{error_of_run}
 use Rattle.om_run_commands.specs.steps.Scripts.{IsErrorOfRawScript, IsErrorOfScript}
 use Rattle.om_run_commands.proofs.FollowLemmas.{partly_of_fault}
@@ -65,35 +60,21 @@ other_more p a b told t apart before =
     in subst (Appends a b) (sym (ap {A = List Told} (λ l. flat_map (λ (t : Told). t.bytes) l) own)) before
 
 -- ---- what is told of a process in the end
-outputs_at : (released : List (Vec Output Global)) (p : ℕ) → map held_of (outputs_in (slice_get released p)) ≡ slice_index_or (map (λ os. map held_of os.items) released) p []
-outputs_at [] zero = refl
-outputs_at [] (suc p) = refl
-outputs_at (os ∷ released) zero = refl
-outputs_at (os ∷ released) (suc p) = outputs_at released p
-
-pub told_bytes : (p : ℕ) (told : List Told) (released : List (Vec Output Global)) → TellsAll told released
-    → bytes_told p told ≡ bytes_of (slice_index_or (map (λ os. map held_of os.items) released) p [])
-told_bytes p told released tells =
-    ap {A = List Told} (λ l. flat_map (λ (t : Told). t.bytes) l) (tells p)
-    ∙ flat_map-map (λ (t : Told). t.bytes) (told_of p) (outputs_in (slice_get released p))
-    ∙ sym (flat_map-map (λ (o : HeldOutput). o.bytes) held_of (outputs_in (slice_get released p)))
-    ∙ ap bytes_of (outputs_at released p)
-
 -- a script is answered by the bytes of what its run told of a process
-pub bytes_of_report : {E : Type 0} (p : ℕ) (over_clean : Type 0) (script : ClusterFile) (images : List Image) (r : Result Report E) (report : Report)
+pub bytes_of_report : {E : Type 0} (p : ℕ) (over_clean : Type 0) (script : ClusterFile) (images : List Image) (r : Result FollowedReport E) (report : FollowedReport)
     (a b : Option (List ℕ)) (same_after : Type 0)
     → r ≡ Ok report → map program_of images ≡ programs_of script.cluster
-    → IfOk r (IsReport over_clean (map program_of images))
-    → IfOk r (λ report. (told : List Told) × (same_after × Appends a b (bytes_told p told)) × TellsAll told report.released.items)
+    → IfOk r (λ report. (told : List Told) × (same_after × Appends a b (bytes_told p told))
+    × IsToldReport over_clean (map program_of images) report.statuses.items report.front told)
     → (text : List ℕ) × IsBytesAnswer p over_clean report.statuses.items script text × Appends a b text
-bytes_of_report p over_clean script images r report a b same_after is programs is_report told =
-    let all = ok_at (λ report. (told : List Told) × (same_after × Appends a b (bytes_told p told)) × TellsAll told report.released.items) r report is told in (
+bytes_of_report p over_clean script images r report a b same_after is programs told =
+    let all = ok_at (λ report. (told : List Told) × (same_after × Appends a b (bytes_told p told)) × IsToldReport over_clean (map program_of images) report.statuses.items report.front told) r report is told in (
       bytes_told p all.0,
       record {
-        report = report;
-        is_report = subst (λ ps. IsReport over_clean ps report) programs (ok_at (IsReport over_clean (map program_of images)) r report is is_report);
-        ended = refl;
-        is_text = told_bytes p all.0 report.released.items all.2;
+        front = report.front;
+        told = all.0;
+        is_told = subst (λ ps. IsToldReport over_clean ps report.statuses.items report.front all.0) programs all.2;
+        is_text = refl;
       },
       all.1.1,
     )
@@ -110,7 +91,7 @@ part_told p over_clean script images same_after a b programs is = (
   is.1.1,
 )
 
-pub part_of_bytes : (p : ℕ) (over_clean : Type 0) (script : ClusterFile) (images : List Image) (r : Result Report FollowFault) (fault : FollowFault)
+pub part_of_bytes : (p : ℕ) (over_clean : Type 0) (script : ClusterFile) (images : List Image) (r : Result FollowedReport FollowFault) (fault : FollowFault)
     (error : CommandError) (same_after : Type 0) (a b : Option (List ℕ)) (none : Type 0)
     → r ≡ Err fault → map program_of images ≡ programs_of script.cluster
     → (fault ≡ Unwanted → (error ≡ errors.NoMemory) ⊎ (error ≡ errors.CannotWrite)) → ((f : RunFault) → fault ≡ Run f → error ≡ error_of_run f)

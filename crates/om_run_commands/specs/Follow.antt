@@ -1,17 +1,16 @@
 -- What the command `run --follow` writes, with `--raw` too.
-use Rattle.std.specs.Prelude.{◌≡◌, ℕ, List, [], ◌++◌, Option, Some, length, slice_index_or}
+use Rattle.std.specs.Prelude.{◌≡◌, ℕ, List, ◌++◌, Option, Some, length}
 use Rattle.std.specs.Io.KnownBytes.{Appends}
 use Rattle.std.specs.List.{flat_map}
-use Rattle.om_report.specs.declared.report.Report.{Report}
+use Rattle.om_board.specs.declared.front.Front.{Front}
 use Rattle.om_process.specs.declared.status.Status.{Status}
 use Rattle.om_scripts.specs.Named.{place_of}
 use Rattle.om_scripts.specs.Programs.{Cluster, programs_of}
-use Rattle.om_report.specs.Reports.{IsReport}
-use Rattle.om_runner.specs.Telling.{AreInOrder, AreToldMade, TellsAll, Told, of_process}
+use Rattle.om_report.specs.Reports.{IsToldReport}
+use Rattle.om_runner.specs.Telling.{AreInOrder, AreToldMade, Told, of_process}
 use Rattle.om_commands.specs.Command.{AnswersScript, IsScript}
 use Rattle.om_run_commands.specs.ClusterScript.{ClusterFile, cluster_file_line, no_settings}
-use Rattle.om_run_commands.specs.Run.{outputs_of}
-use Rattle.om_run_commands.specs.RunText.{bytes_of, ends_text}
+use Rattle.om_run_commands.specs.RunText.{ends_text}
 use Rattle.om_commands.specs.SimText.{name_at, output_line}
 use Rattle.om_commands.specs.declared.bytes_text.BytesForm.{BytesForm}
 
@@ -22,11 +21,11 @@ told_text form cluster told = flat_map (λ t. output_line form (name_at cluster 
 -- The text of what a run of the cluster of a script ends with: a line for each output that is released, those of a process in
 -- order and each once, and then how each process ended.
 pub record IsFollowedAnswer (form : BytesForm) (over_clean : Type 0) (script : ClusterFile) (text : List ℕ) : Type 0 where
-  pub report : Report
-  pub is_report : IsReport over_clean (programs_of script.cluster) report
+  pub statuses : List Status
+  pub front : Front
   pub told : List Told
-  pub tells_all : TellsAll told report.released.items
-  pub is_text : text ≡ told_text form script.cluster told ++ ends_text script.cluster report.statuses.items
+  pub is_told : IsToldReport over_clean (programs_of script.cluster) statuses front told
+  pub is_text : text ≡ told_text form script.cluster told ++ ends_text script.cluster statuses
 
 -- the answer to the cluster file that these bytes are
 abbrev pub IsFollowedRun : BytesForm → Type 0 → List ℕ → List ℕ → Type 0
@@ -51,10 +50,10 @@ bytes_told p told = flat_map (λ t. t.bytes) (of_process p told)
 -- The text is the bytes of the outputs that are released of process p, one behind the other, in a run of the cluster of a script that
 -- ended with these statuses.
 pub record IsBytesAnswer (p : ℕ) (over_clean : Type 0) (statuses : List Status) (script : ClusterFile) (text : List ℕ) : Type 0 where
-  pub report : Report
-  pub is_report : IsReport over_clean (programs_of script.cluster) report
-  pub ended : statuses ≡ report.statuses.items
-  pub is_text : text ≡ bytes_of (slice_index_or (outputs_of report) p [])
+  pub front : Front
+  pub told : List Told
+  pub is_told : IsToldReport over_clean (programs_of script.cluster) statuses front told
+  pub is_text : text ≡ bytes_told p told
 
 -- the answer of `IsBytesAnswer` for the process of a name
 abbrev pub IsFollowedRawAnswer : List ℕ → Type 0 → List Status → ClusterFile → List ℕ → Type 0

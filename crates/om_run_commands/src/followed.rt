@@ -11,7 +11,6 @@ ghost use Rattle.om_run_commands.specs.steps.Modes.{IsFollowedTo};
 ghost use Rattle.om_run_commands.specs.Run.{IsByKind};
 ghost use Rattle.om_run_commands.specs.steps.Scripts.{IsErrorOfScript};
 ghost use Rattle.om_run_commands.specs.RunText.{ends_text};
-ghost use Rattle.om_commands.specs.SimText.{name_at};
 
 use crate::cluster_script::ClusterScript;
 use crate::error::error_of_run;
@@ -40,17 +39,6 @@ struct Lines<'a, W: Write + Drop> {
     lacks_memory: bool,
 }
 
-// Returns the name of a process, and an empty one where there is no such process.
-pub(crate) fn name_in(programs: &Programs, p: usize) -> &str
-    ensures { result.now ≡ name_at programs.now p }
-{
-    if p < programs.n() {
-        name_of(programs, p)
-    } else {
-        ""
-    }
-}
-
 // Makes the line of an output of a process.
 fn line_of(
     alloc: Global,
@@ -66,7 +54,7 @@ fn line_of(
         alloc,
         &mut text,
         form,
-        name_in(programs, pid.index()),
+        name_of(programs, pid.index()),
         output.seq,
         output.bytes.as_slice(),
     )?;

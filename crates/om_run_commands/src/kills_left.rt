@@ -4,7 +4,7 @@ ghost use Rattle.std.specs.Prelude.{◌≡◌, ◌<◌, ◌++◌, ℕ, [], IfOk,
 ghost use Rattle.om_run_commands.specs.KillsLeft.{is_left, is_left_after, is_same, kills_left_text, left_line};
 
 use crate::cluster_script::ClusterScript;
-use crate::followed::name_in;
+use om_commands::name_of;
 use om_interval::Pid;
 use om_scripts::Programs;
 use std::alloc::{AllocError, Global};
@@ -71,7 +71,7 @@ fn push_kills_left(
     for i in 0..kills.len() {
         let kill = &kills[i];
         let is_left = is_left_after(&kills[..i], kill, failures);
-        push_left(text, name_in(programs, kill.0.index()), kill.1, is_left)?;
+        push_left(text, name_of(programs, kill.0.index()), kill.1, is_left)?;
     }
     Ok(())
 }

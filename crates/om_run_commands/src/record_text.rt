@@ -1,7 +1,7 @@
 //! The text of what threads did: a script of `sim`, with comments.
 
-use crate::event_text::push_event;
-use om_commands::push_state;
+use crate::event_text::push_line;
+use om_commands::{name_of, push_state};
 use om_interval::Pid;
 use om_runner::{Act, Letter, Record};
 use om_scripts::Programs;
@@ -103,7 +103,7 @@ fn push_comment(
 ) -> Result<(), AllocError> {
     match act {
         Act::Fail { process, interval } => {
-            let name = name_of(programs, process);
+            let name = name_of(programs, process.index());
             write!(text, "# {name} fails as interval {interval} begins\n")
         }
         Act::Back {
@@ -111,7 +111,7 @@ fn push_comment(
             interval,
             inc,
         } => {
-            let name = name_of(programs, process);
+            let name = name_of(programs, process.index());
             write!(
                 text,
                 "# {name} goes back to {interval}, incarnation {inc}\n"
@@ -120,10 +120,6 @@ fn push_comment(
         Act::Finish { round } => push_finish(text, record, round),
         _ => Ok(()),
     }
-}
-
-fn name_of(programs: &Programs, process: Pid) -> &str {
-    programs.name(process.index()).unwrap_or("")
 }
 
 // Writes that a round is finished.
@@ -152,7 +148,7 @@ pub(crate) fn record_text(
             frames.make(letter)?;
         }
         if let Some(event) = frames.event_of(*act) {
-            push_event(&mut text, event)?;
+            push_line(&mut text, event)?;
         }
     }
     Ok(text)

@@ -4,7 +4,7 @@ ghost use Rattle.std.specs.Prelude.{◌≡◌, ◌++◌, IfOk, OnOk, string_byte
 ghost use Rattle.om_run_commands.specs.RefusedSends.{refused_line, refused_sends_text};
 
 use crate::cluster_script::ClusterScript;
-use crate::followed::name_in;
+use om_commands::name_of;
 use om_runner::Sight;
 use om_scripts::Programs;
 use std::alloc::{AllocError, Global};
@@ -33,7 +33,7 @@ fn push_refused_sends(
     ensures { OnOk result (string_bytes text.new ≡ string_bytes text.old ++ refused_sends_text programs.now sights.now) }
 {
     for p in 0..sights.len() {
-        push_refused(text, name_in(programs, p), sights[p].refused)?;
+        push_refused(text, name_of(programs, p), sights[p].refused)?;
     }
     Ok(())
 }

@@ -9,7 +9,8 @@ ghost use Rattle.om_run_commands.specs.RunText.{bytes_of, ends_text, raw_text, r
 ghost use Rattle.om_run_commands.specs.steps.Lines.{released_text};
 ghost use Rattle.om_run_commands.specs.steps.Lines.{end_line};
 
-use om_commands::{BytesForm, name_of, push_outputs, push_status};
+use om_commands::{BytesForm, name_of, push_outputs};
+use om_event_text::push_status;
 use om_manager::Output;
 use om_process::Status;
 use om_runner::Report;

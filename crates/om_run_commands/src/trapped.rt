@@ -6,7 +6,7 @@ ghost use Rattle.om_look.specs.Trace.{word_text};
 ghost use Rattle.om_run_commands.specs.Trapped.{cause_line, cause_words, is_trap, status_line, trap_line, traps_text};
 
 use crate::cluster_script::ClusterScript;
-use crate::followed::name_in;
+use om_commands::name_of;
 use om_machine::Cause;
 use om_process::Status;
 use om_runner::{Doing, Sight};
@@ -59,7 +59,7 @@ fn push_traps(
         push_trap(
             alloc,
             text,
-            name_in(programs, p),
+            name_of(programs, p),
             sights[p].doing,
             sights[p].pc,
         )?;

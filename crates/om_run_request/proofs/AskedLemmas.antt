@@ -15,7 +15,8 @@ use Rattle.om_report.specs.declared.report.Report.{Report}
 use Rattle.om_run_commands.specs.ClusterScript.{ClusterFile}
 use Rattle.om_run_commands.specs.Follow.{IsFollowedAnswer, IsFollowedRawAnswer}
 use Rattle.om_run_commands.specs.Modes.{IsErrorIn, IsPartIn, IsRunIn}
-use Rattle.om_report.specs.Reports.{IsReport}
+use Rattle.om_report.specs.Reports.{IsReport, IsToldReport}
+use Rattle.om_report.specs.Telling.{Told}
 use Rattle.om_run_commands.specs.Run.{IsByKind, IsRawAnswer, IsRunAnswer}
 use Rattle.om_run_commands.specs.declared.mode.RunMode.{RunMode}
 use Rattle.om_run_commands.specs.declared.mode.RunMode.TheVariants as modes
@@ -46,12 +47,23 @@ module _ (A B : Type 0) (back : B → A) where
     all = λ b. h.all (back b);
   }
 
+  followed_report_along : (programs : List Program) (statuses : List Status) (front : _) (told : List Told) → IsToldReport A programs statuses front told
+      → IsToldReport B programs statuses front told
+  followed_report_along programs statuses front told h = record {
+    processes = h.processes;
+    ended = h.ended;
+    in_order = h.in_order;
+    made = λ b. h.made (back b);
+    all = λ b. h.all (back b);
+    others = h.others;
+  }
+
   told_along : (form : BytesForm) (script : ClusterFile) (text : List ℕ) → IsRunAnswer form A script text → IsRunAnswer form B script text
   told_along form script text h = (h.0, report_along _ h.0 h.1, h.2)
 
   followed_along : (form : BytesForm) (script : ClusterFile) (text : List ℕ) → IsFollowedAnswer form A script text → IsFollowedAnswer form B script text
   followed_along form script text h =
-      record { report = h.report; is_report = report_along _ h.report h.is_report; told = h.told; tells_all = h.tells_all; is_text = h.is_text }
+      record { statuses = h.statuses; front = h.front; told = h.told; is_told = followed_report_along _ h.statuses h.front h.told h.is_told; is_text = h.is_text }
 
   raw_along : (name : List ℕ) (statuses : List Status) (script : ClusterFile) (text : List ℕ) → IsRawAnswer name A statuses script text
       → IsRawAnswer name B statuses script text
@@ -63,7 +75,7 @@ module _ (A B : Type 0) (back : B → A) where
   followed_raw_along name statuses script text h = (
     h.0,
     h.1,
-    record { report = h.2.report; is_report = report_along _ h.2.report h.2.is_report; ended = h.2.ended; is_text = h.2.is_text },
+    record { front = h.2.front; told = h.2.told; is_told = followed_report_along _ statuses h.2.front h.2.told h.2.is_told; is_text = h.2.is_text },
   )
 
   run_along : (mode : RunMode) (form : BytesForm) (statuses : List Status) (bytes text : List ℕ) → IsRunIn mode form A statuses bytes text

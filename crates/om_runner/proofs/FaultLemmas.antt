@@ -105,14 +105,14 @@ abbrev pub Kept : {K S : Type 0} → (S → Bool) → Config → Image → Lines
 Kept is_clean config image lines own n r = IfOk r (λ f. IsEndOf is_clean (program_of image) lines own n f) × IsOwnEnd config own r
 
 pub kept_end : {K S : Type 0} (is_clean : S → Bool) (config : Config) (image : Image) (lines : Lines) (own n : ℕ) (p q : EndOf S) (r : Result (Finished K S) RunFault)
-    → p ≡ q → IsPromised config image lines own n q → Kept is_clean p.plan.now p.image.now p.inboxes.now p.own p.n r → Kept is_clean config image lines own n r
+    → p ≡ q → IsPromised config image lines own n q → Kept is_clean p.config.now p.image.now p.inboxes.now p.own p.n r → Kept is_clean config image lines own n r
 kept_end is_clean config image lines own n p q r same promised kept =
     let is : IsPromised config image lines own n p = subst (IsPromised config image lines own n) (sym same) promised in
     subst (λ x. Kept is_clean x image lines own n r) is.plan_is
-    (subst (λ x. Kept is_clean p.plan.now x lines own n r) is.image_is
-    (subst (λ x. Kept is_clean p.plan.now p.image.now x own n r) is.lines_are
-    (subst (λ x. Kept is_clean p.plan.now p.image.now p.inboxes.now x n r) is.own_is
-    (subst (λ x. Kept is_clean p.plan.now p.image.now p.inboxes.now p.own x r) is.n_is kept))))
+    (subst (λ x. Kept is_clean p.config.now x lines own n r) is.image_is
+    (subst (λ x. Kept is_clean p.config.now p.image.now x own n r) is.lines_are
+    (subst (λ x. Kept is_clean p.config.now p.image.now p.inboxes.now x n r) is.own_is
+    (subst (λ x. Kept is_clean p.config.now p.image.now p.inboxes.now p.own x r) is.n_is kept))))
 
 -- an image of the list
 pub image_in : (images : List Image) (i : ℕ) → i < length images → Image

@@ -1,4 +1,3 @@
 mod ReportLemmas
 mod SettleLemmas
 mod FaultLemmas
-mod ToldLemmas

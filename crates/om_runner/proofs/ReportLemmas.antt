@@ -1,6 +1,6 @@
 -- What a report is made of.
 use Rattle.std.proofs.Common.{◌≡◌, inl, inr, ℕ, suc, ◌+◌, ◌<◌, ◌≤◌, List, [], ◌∷◌, ◌++◌, Some, sym, ap, ◌∙◌, subst, arith, get_or, length, map, IsTrue, Bool}
-use Rattle.std.specs.Prelude.{All, Vec, vec_len, slice_get, Ok, Err, Result, IfOk}
+use Rattle.std.specs.Prelude.{All, Vec, slice_get, Ok, Err, Option, None, Result, IfOk}
 use Rattle.std.specs.declared.alloc.Global.{Global}
 use Rattle.std.proofs.lemmas.List.{length-map}
 use Rattle.std.proofs.lemmas.Option.{get_or_from_slice_get, same_Some, slice_get-get_or, slice_get_cases, slice_get_within}
@@ -11,8 +11,7 @@ use Rattle.om_board.proofs.ListLemmas.{map_get, map_had, more_had}
 use Rattle.om_manager.specs.declared.output_log.Output.{Output}
 use Rattle.om_process.specs.Process.{Program}
 use Rattle.om_report.specs.Released.{AreAllMade, AreAllReleased}
-use Rattle.om_report.specs.declared.report.Report.{Report}
-use Rattle.om_report.specs.Reports.{AreWhole, IsReport, IsWholeReport, LeaveNoneOut}
+use Rattle.om_report.specs.Reports.{AreWhole, IsToldReport, IsWholeReport, LeaveNoneOut}
 use Rattle.om_runner.specs.Reports.{AreWholeOver}
 use Rattle.om_node.specs.Ends.{IsWholeRun}
 use Rattle.om_node.specs.Nodes.{AreAlwaysClean}
@@ -27,7 +26,13 @@ use Rattle.om_worker_parts.specs.declared.network.Ends.{Ends}
 use Rattle.om_runner.specs.declared.results.Parts.{Parts}
 use Rattle.om_runner.specs.steps.Ends.{AreEndsOf, AreParts}
 use Rattle.om_worker.specs.Ends.{IsEndOf}
-use Rattle.om_report.specs.Harvests.{AreNoFewer, AreOwn, HarvestState, harvested}
+use Rattle.om_report.specs.Harvests.{AreOwn, HarvestState, harvested}
+use Rattle.om_report.specs.Following.{AreAllCopied, AreTold, IsTold, copied_of}
+use Rattle.om_report.specs.Telling.{AreToldWithin, Told, of_process}
+use Rattle.om_report.specs.declared.followed_outputs.FollowedOutputs.{FollowedOutputs}
+use Rattle.om_report.specs.declared.follower.FollowFault.{FollowFault}
+use Rattle.om_report.specs.declared.report.FollowedReport.{FollowedReport}
+use Rattle.om_report.proofs.FollowLemmas.{none_of, told_partly, told_to_end, told_within}
 use Rattle.om_worker_parts.specs.Network.{ArePuts, AreTakes, IsNetwork, Lines}
 use Rattle.om_runner.specs.steps.Settling.{ArePasses}
 use Rattle.om_worker_parts.specs.Wiring.{HasEnds, IsWired}
@@ -173,17 +178,10 @@ whole_always is_clean programs images statuses released stores same many whole a
       | inr past ↦ let l = past.0 in let lt = slice_get_within images p image.0 image.1 in absurd (omega arith)
     ]
 
--- where they are as many, none is left out; so where there are more
-none_left_out : (programs : List Program) (statuses : List Status) (few released : List (Vec Output Global)) → length few ≡ length programs → AreNoFewer few released
-    → AreWhole programs statuses few → LeaveNoneOut programs statuses released
-none_left_out programs statuses few released many less whole p program status outputs at_program at_status at_outputs =
-    elim (slice_get_cases few p).1 [
-      | inl low ↦ (length low.0.items, whole p program status low.0 at_program at_status low.2, less p low.0 outputs low.2 at_outputs)
-      | inr past ↦ let l = past.0 in let lt = slice_get_within programs p program at_program in absurd (omega arith)
-    ]
-
-no_fewer : (released : List (Vec Output Global)) → AreNoFewer released released
-no_fewer released p low high at_low at_high = let same : low ≡ high = same_Some low high (sym at_low ∙ at_high) in subst (λ (v : Vec Output Global). length low.items ≤ length v.items) same (omega arith)
+-- where they are as many, none is left out
+none_left_out : (programs : List Program) (statuses : List Status) (released : List (Vec Output Global)) → AreWhole programs statuses released → LeaveNoneOut programs statuses released
+none_left_out programs statuses released whole p program status outputs at_program at_status at_outputs =
+    (length outputs.items, whole p program status outputs at_program at_status at_outputs, omega arith)
 
 -- what all workers brought back, where each had ended well, with the front that was read then
 pub whole_report : {S : Type 0} (is_clean : S → Bool) (over_clean : Type 0) (programs : List Program) (n : ℕ) (images : List Image)
@@ -206,37 +204,80 @@ whole_report is_clean over_clean programs n images released statuses front store
         ended = ended;
         released = are_released;
         made = λ over. subst (λ k. AreAllMade programs k released.items) n_is (made over);
-        all = λ over. none_left_out programs statuses.items released.items released.items (processes ∙ as_many) (no_fewer released.items) (all over);
+        all = λ over. none_left_out programs statuses.items released.items (all over);
       };
       whole = all;
       last = (under.0, subst (λ m. IsBoard m under.0) n_is under.2, under.3.0);
     }
 
--- what a follower was told, which is no less than all workers brought back
-pub followed_report : {E K S : Type 0} (is_clean : S → Bool) (over_clean : Type 0) (programs : List Program) (n : ℕ) (images : List Image) (lines : Lines)
-    (parts : Parts K S) (harvests : Vec HarvestState Global) (statuses : Vec Status Global) (r : Result Report E)
+-- what a follower was told, to its end, is no less than all workers brought back
+pub told_report : {F K S : Type 0} (Tells : F → F → List Told → Type 0) (is_clean : S → Bool) (over_clean : Type 0) (programs : List Program) (n : ℕ) (images : List Image) (lines : Lines)
+    (parts : Parts K S) (harvests : Vec HarvestState Global) (statuses : Vec Status Global) (start : F) (lanes : List FollowedOutputs) (now : F) (front : Front)
     → programs ≡ map program_of images → length images ≡ n → (over_clean → AreAlwaysClean is_clean)
     → AreParts is_clean images lines parts → harvests ≡ parts.harvests → statuses ≡ parts.statuses
-    → IfOk r (λ report. AreAllReleased report.front.vec report.released.items)
-    → (over_clean → IfOk r (λ report. AreAllMade programs n report.released.items))
-    → IfOk r (λ report. AreNoFewer (harvested harvests.items) report.released.items)
-    → IfOk r (λ report. vec_len report.released ≡ n) → IfOk r (λ report. report.statuses ≡ statuses)
-    → IfOk r (IsReport over_clean programs)
-followed_report is_clean over_clean programs n images lines parts harvests statuses (Ok report) same many clean are same_harvests same_statuses are_released made less processes kept =
-    let as_many : length images ≡ length programs = as_programs programs images same in
-    let few = harvested parts.harvests.items in
-    let told : report.statuses ≡ parts.statuses = kept ∙ same_statuses in
-    let more : AreNoFewer few report.released.items =
-    subst (λ (v : Vec HarvestState Global). AreNoFewer (harvested v.items) report.released.items) same_harvests less in
-    let of_few : length few ≡ length programs = length-map parts.harvests.items (λ (h : HarvestState). h.outputs) ∙ are.harvests ∙ as_many in
-    record {
-      processes = sym report.released.ok.0 ∙ processes ∙ sym many ∙ as_many;
-      statuses = ap (λ (v : Vec Status Global). length v.items) told ∙ are.statuses ∙ as_many;
-      ended = subst (λ (v : Vec Status Global). All IsEnd v.items) (sym told) are.ended;
-      released = are_released;
-      made = λ over. subst (λ k. AreAllMade programs k report.released.items) (sym many ∙ as_many) (made over);
-      all = λ over. subst (λ (v : Vec Status Global). LeaveNoneOut programs v.items report.released.items) (sym told)
-          (none_left_out programs parts.statuses.items few report.released.items of_few more
-          (whole_always is_clean programs images parts.statuses.items few parts.stores.items same are.stores are.whole (clean over)));
-    }
-followed_report is_clean over_clean programs n images lines parts harvests statuses (Err e) same many clean are same_harvests same_statuses are_released made less processes kept = tt
+    → AreTold lanes → AreAllCopied (harvested harvests.items) lanes → length lanes ≡ n
+    → IsTold Tells over_clean programs n front.vec start lanes now
+    → (told : List Told) × Tells start now told × IsToldReport over_clean programs statuses.items front told
+told_report Tells is_clean over_clean programs n images lines parts harvests statuses start lanes now front same many clean are same_harvests same_statuses ends all long is = (
+  is.told,
+  is.tells,
+  record {
+    processes = ap (λ (v : Vec Status Global). length v.items) same_statuses ∙ are.statuses ∙ as_many;
+    ended = subst (λ (v : Vec Status Global). All IsEnd v.items) (sym same_statuses) are.ended;
+    in_order = (told_partly Tells over_clean programs n front.vec start lanes now is).2;
+    made = λ over. subst (λ k. AreToldWithin programs k front.vec is.told) n_is (told_within Tells over_clean programs n front.vec start lanes now is over);
+    all = λ over p program status at_program at_status.
+        let inside = slice_get_within programs p program at_program in
+        let there : slice_get parts.statuses.items p ≡ Some status = subst (λ (v : Vec Status Global). slice_get v.items p ≡ Some status) same_statuses at_status in
+        elim (slice_get_cases few p).1 [
+          | inl low ↦ elim (slice_get_cases lanes p).1 [
+            | inl lane ↦
+                let copied : length (of_process p is.told) ≡ lane.0.copied = told_to_end Tells over_clean programs n front.vec start lanes now is ends p ∙ ap copied_of lane.2 in
+                let less : length low.0.items ≤ lane.0.copied = all_few p low.0 lane.0 low.2 lane.2 in (
+                  length low.0.items,
+                  whole_always is_clean programs images parts.statuses.items few parts.stores.items same are.stores are.whole (clean over) p program status low.0 at_program there low.2,
+                  subst (λ k. length low.0.items ≤ k) (sym copied) less,
+                )
+            | inr past ↦ let l = past.0 in absurd (omega arith)
+          ]
+          | inr past ↦ let l = past.0 in absurd (omega arith)
+        ];
+    others = λ p past. none_of (of_process p is.told) (told_to_end Tells over_clean programs n front.vec start lanes now is ends p ∙ zero_past p past);
+  },
+)
+  where
+    few : List (Vec Output Global)
+    few = harvested parts.harvests.items
+
+    as_many : length images ≡ length programs
+    as_many = as_programs programs images same
+
+    n_is : n ≡ length programs
+    n_is = sym many ∙ as_many
+
+    of_few : length few ≡ length programs
+    of_few = length-map parts.harvests.items (λ (h : HarvestState). h.outputs) ∙ are.harvests ∙ as_many
+
+    all_few : AreAllCopied few lanes
+    all_few = subst (λ (v : Vec HarvestState Global). AreAllCopied (harvested v.items) lanes) same_harvests all
+
+    zero_past : (p : ℕ) → length programs ≤ p → copied_of (slice_get lanes p) ≡ 0
+    zero_past p past = elim (slice_get_cases lanes p).1 [
+      | inl lane ↦ let lt = lane.1 in absurd (omega arith)
+      | inr none ↦ ap copied_of none.1
+    ]
+
+-- where there is no cause that the run comes to no end, its report is of what was told
+pub of_report : {F E : Type 0} (Tells : F → F → List Told → Type 0) (over_clean : Type 0) (programs : List Program) (r : Result FollowedReport E) (statuses : Vec Status Global) (front : Front)
+    (start : F) (fault : Option FollowFault) (now last : F)
+    → IfOk r (λ report. report.statuses ≡ statuses) → IfOk r (λ report. report.front ≡ front) → IfOk r (λ report. fault ≡ None) → last ≡ now
+    → (fault ≡ None → (told : List Told) × Tells start now told × IsToldReport over_clean programs statuses.items front told)
+    → IfOk r (λ report. (told : List Told) × Tells start last told × IsToldReport over_clean programs report.statuses.items report.front told)
+of_report Tells over_clean programs (Ok report) statuses front start fault now last same_statuses same_front none same told =
+    let is = told none in (
+      is.0,
+      subst (λ f. Tells start f is.0) (sym same) is.1,
+      subst (λ (f : Front). IsToldReport over_clean programs report.statuses.items f is.0) (sym same_front)
+          (subst (λ (v : Vec Status Global). IsToldReport over_clean programs v.items front is.0) (sym same_statuses) is.2),
+    )
+of_report Tells over_clean programs (Err e) statuses front start fault now last same_statuses same_front none same told = tt

@@ -45,12 +45,12 @@ pub(crate) fn run_workers<
     passes: Vec<Pass<K>>,
     beside: B,
 ) -> (Result<Parts<K, O::Store>, RunFault>, B)
-    requires named { IsNamedFor O.Store.is_clean K.OverClean K.programs K.cell.n cluster.now.plan.now.images.items }
+    requires named { IsNamedFor O.Store.is_clean K.OverClean K.programs K.cell.n cluster.now.config.now.images.items }
     requires ready { CanStart K.cell.n cluster.now.inboxes.now ends.items (vec_len passes) }
     requires some { 1 ≤ K.cell.n }
     requires same { B.Becomes beside beside }
-    ensures parts { IfOk result.0 (AreParts O.Store.is_clean cluster.now.plan.now.images.items cluster.now.inboxes.now) }
-    ensures given { OnOk result.0 (IsGiven cluster.now.plan.now) }
+    ensures parts { IfOk result.0 (AreParts O.Store.is_clean cluster.now.config.now.images.items cluster.now.inboxes.now) }
+    ensures given { OnOk result.0 (IsGiven cluster.now.config.now) }
     ensures fault { IfErr result.0 (IsFaultOf K.cell.n) }
     ensures beside { B.Becomes beside result.1 }
 {
@@ -97,14 +97,14 @@ fn close<K: Naming, R: Wait, G: Gate, O: Opener<R>>(
     cluster: &Cluster<'_, K, R, G, O>,
     parts: Parts<K, O::Store>,
 ) -> Result<(Report, Vec<O::Store>, Vec<Witness>, Vec<Vec<TakePass>>), RunFault>
-    requires named { IsNamedFor O.Store.is_clean K.OverClean K.programs K.cell.n cluster.now.plan.now.images.items }
-    requires parts { AreParts O.Store.is_clean cluster.now.plan.now.images.items cluster.now.inboxes.now parts }
+    requires named { IsNamedFor O.Store.is_clean K.OverClean K.programs K.cell.n cluster.now.config.now.images.items }
+    requires parts { AreParts O.Store.is_clean cluster.now.config.now.images.items cluster.now.inboxes.now parts }
     ensures settled { IfOk result (λ r. AreSettled (length parts.puts.items) parts.puts.items parts.takes.items r.3.items) }
     ensures outputs { IfOk result (λ r. r.0.released.items ≡ harvested parts.harvests.items) }
     ensures each { IfOk result (λ r. r.0.statuses ≡ parts.statuses) }
     ensures report { IfOk result (λ r. IsWholeReport K.OverClean K.programs r.0) }
-    ensures stores { IfOk result (λ r. length r.1.items ≡ length cluster.now.plan.now.images.items) }
-    ensures whole { IfOk result (λ r. AreWholeOver O.Store.is_clean cluster.now.plan.now.images.items r.0.statuses.items
+    ensures stores { IfOk result (λ r. length r.1.items ≡ length cluster.now.config.now.images.items) }
+    ensures whole { IfOk result (λ r. AreWholeOver O.Store.is_clean cluster.now.config.now.images.items r.0.statuses.items
         r.0.released.items r.1.items) }
     ensures fault { IfErr result (λ f. f ≡ Memory) }
 {
@@ -129,32 +129,32 @@ fn run_named<
 >(
     rt: &R,
     alloc: Global,
-    plan: &Config,
+    config: &Config,
     gate: &G,
     opener: &O,
     observers: Observers<'_>,
     blank: Blank,
 ) -> Result<(Report, Vec<O::Store>, Vec<Witness>), RunFault>
     requires named { blank ≡ K.cell }
-    requires size { blank.n ≡ length plan.now.images.items }
-    requires some { 1 ≤ length plan.now.images.items }
-    requires few { length plan.now.images.items ≤ MAX_PROCESSES }
-    requires programs { K.programs ≡ map program_of plan.now.images.items }
+    requires size { blank.n ≡ length config.now.images.items }
+    requires some { 1 ≤ length config.now.images.items }
+    requires few { length config.now.images.items ≤ MAX_PROCESSES }
+    requires programs { K.programs ≡ map program_of config.now.images.items }
     requires clean { K.OverClean → AreAlwaysClean O.Store.is_clean }
     ensures report { IfOk result (λ r. IsWholeReport K.OverClean K.programs r.0) }
-    ensures stores { IfOk result (λ r. length r.1.items ≡ length plan.now.images.items) }
-    ensures whole { IfOk result (λ r. AreWholeOver O.Store.is_clean plan.now.images.items r.0.statuses.items
+    ensures stores { IfOk result (λ r. length r.1.items ≡ length config.now.images.items) }
+    ensures whole { IfOk result (λ r. AreWholeOver O.Store.is_clean config.now.images.items r.0.statuses.items
         r.0.released.items r.1.items) }
-    ensures given { OnOk result (IsGiven plan.now) }
-    ensures fault { IfErr result (IsFaultOf (length plan.now.images.items)) }
+    ensures given { OnOk result (IsGiven config.now) }
+    ensures fault { IfErr result (IsFaultOf (length config.now.images.items)) }
 {
-    let Ok((ground, ends, passes)) = ground_of::<K>(alloc, plan.images.len(), blank) else {
+    let Ok((ground, ends, passes)) = ground_of::<K>(alloc, config.images.len(), blank) else {
         return Err(RunFault::Memory);
     };
     let cluster = Cluster {
         rt,
         alloc,
-        plan,
+        config,
         gate,
         opener,
         shared: &ground.shared,

@@ -4,10 +4,10 @@ ghost use Rattle.std.specs.Prelude.{◌≡◌, ◌≢◌, ◌≤◌, [], IfErr, 
 ghost use Rattle.om_interval.specs.declared.pid.TheConstants.{MAX_PROCESSES};
 ghost use Rattle.om_process.specs.Images.{program_of};
 ghost use Rattle.om_report.specs.Following.{IsFollowed};
-ghost use Rattle.om_report.specs.Telling.{AreInOrder, AreToldMade, TellsAll, Told};
+ghost use Rattle.om_report.specs.Telling.{AreInOrder, AreToldMade, Told};
 ghost use Rattle.om_report.specs.declared.follower.FollowFault.TheVariants.{Unwanted};
 ghost use Rattle.om_node.specs.Nodes.{AreAlwaysClean};
-ghost use Rattle.om_report.specs.Reports.{IsReport};
+ghost use Rattle.om_report.specs.Reports.{IsToldReport};
 ghost use Rattle.om_runner.specs.steps.Ends.{AreParts};
 ghost use Rattle.om_runner.specs.steps.Starting.{IsNamedFor};
 
@@ -17,7 +17,7 @@ use crate::results::Parts;
 use om_board::{Blank, Naming};
 use om_interval::MAX_PROCESSES;
 use om_observers::{Herald, Observers};
-use om_report::{FollowFault, Follower, Following, Report, RunFault};
+use om_report::{FollowFault, FollowedReport, Follower, Following, RunFault};
 use om_worker::{Cluster, ground_of, stop_all};
 use om_worker_parts::{Config, Gate, Opener};
 use std::alloc::Global;
@@ -28,8 +28,9 @@ use std::time::Clock;
 
 // It tells a follower of what they release. Where the run is to come to no end, it stops them.
 impl<'h, K: Naming, R: Wait, F: Follower> MainTask<K, R> for Following<'h, K, F> {
-    ghost Becomes = { λ old new. (start : F) → IsFollowed F.Tells start old.lanes.items old.fault old.follower
-        → IsFollowed F.Tells start new.lanes.items new.fault new.follower };
+    ghost Becomes = { λ old new. (start : F)
+        → IsFollowed F.Tells K.OverClean K.programs K.cell.n old.front.vec start old.lanes.items old.fault old.follower
+        → IsFollowed F.Tells K.OverClean K.programs K.cell.n new.front.vec start new.lanes.items new.fault new.follower };
 
     fn run_beside<G, O>(self, cluster: &Cluster<'_, K, R, G, O>) -> Following<'h, K, F> {
         let n = cluster.bells.len();
@@ -46,13 +47,13 @@ fn close<K: Naming, R: Wait, G, O: Opener<R>, F: Follower>(
     cluster: &Cluster<'_, K, R, G, O>,
     parts: Result<Parts<K, O::Store>, RunFault>,
     following: Following<'_, K, F>,
-) -> (Result<Report, FollowFault>, F)
-    requires named { IsNamedFor O.Store.is_clean K.OverClean K.programs K.cell.n cluster.now.plan.now.images.items }
-    requires parts { IfOk parts (AreParts O.Store.is_clean cluster.now.plan.now.images.items cluster.now.inboxes.now) }
-    ensures report { IfOk result.0 (IsReport K.OverClean K.programs) }
-    ensures told { (start : F) → IsFollowed F.Tells start following.entry.lanes.items following.entry.fault following.entry.follower
-        → IfOk result.0 (λ report. (told : List Told) × F.Tells start result.1 told × TellsAll told report.released.items) }
-    ensures partly { (start : F) → IsFollowed F.Tells start following.entry.lanes.items following.entry.fault following.entry.follower
+) -> (Result<FollowedReport, FollowFault>, F)
+    requires named { IsNamedFor O.Store.is_clean K.OverClean K.programs K.cell.n cluster.now.config.now.images.items }
+    requires parts { IfOk parts (AreParts O.Store.is_clean cluster.now.config.now.images.items cluster.now.inboxes.now) }
+    ensures told { (start : F) → IsFollowed F.Tells K.OverClean K.programs K.cell.n following.entry.front.vec start following.entry.lanes.items following.entry.fault following.entry.follower
+        → IfOk result.0 (λ report. (told : List Told) × F.Tells start result.1 told
+        × IsToldReport K.OverClean K.programs report.statuses.items report.front told) }
+    ensures partly { (start : F) → IsFollowed F.Tells K.OverClean K.programs K.cell.n following.entry.front.vec start following.entry.lanes.items following.entry.fault following.entry.follower
         → IfErr result.0 (λ fault. fault ≢ Unwanted → (told : List Told) × F.Tells start result.1 told × AreInOrder told
         × (K.OverClean → AreToldMade K.programs K.cell.n told)) }
 {
@@ -66,7 +67,7 @@ fn close<K: Naming, R: Wait, G, O: Opener<R>, F: Follower>(
     };
     let (statuses, harvests, _stores, _, _) = settled(cluster, parts);
     let following = following.complete(cluster.rt, cluster.alloc, cluster.shared, harvests);
-    following.into_report(cluster.alloc, statuses)
+    following.into_report(statuses)
 }
 
 fn run_named<
@@ -79,25 +80,25 @@ fn run_named<
 >(
     rt: &'x R,
     alloc: Global,
-    plan: &'x Config,
+    config: &'x Config,
     gate: &'x G,
     opener: &'x O,
     follower: F,
     blank: Blank,
-) -> (Result<Report, FollowFault>, F)
+) -> (Result<FollowedReport, FollowFault>, F)
     requires named { blank ≡ K.cell }
-    requires size { blank.n ≡ length plan.now.images.items }
-    requires some { 1 ≤ length plan.now.images.items }
-    requires few { length plan.now.images.items ≤ MAX_PROCESSES }
-    requires programs { K.programs ≡ map program_of plan.now.images.items }
+    requires size { blank.n ≡ length config.now.images.items }
+    requires some { 1 ≤ length config.now.images.items }
+    requires few { length config.now.images.items ≤ MAX_PROCESSES }
+    requires programs { K.programs ≡ map program_of config.now.images.items }
     requires clean { K.OverClean → AreAlwaysClean O.Store.is_clean }
     requires start { F.Tells follower follower [] }
-    ensures report { IfOk result.0 (IsReport K.OverClean K.programs) }
-    ensures told { IfOk result.0 (λ report. (told : List Told) × F.Tells follower result.1 told × TellsAll told report.released.items) }
+    ensures told { IfOk result.0 (λ report. (told : List Told) × F.Tells follower result.1 told
+        × IsToldReport K.OverClean K.programs report.statuses.items report.front told) }
     ensures partly { IfErr result.0 (λ fault. fault ≢ Unwanted → (told : List Told) × F.Tells follower result.1 told × AreInOrder told
-        × (K.OverClean → AreToldMade (map program_of plan.now.images.items) (length plan.now.images.items) told)) }
+        × (K.OverClean → AreToldMade (map program_of config.now.images.items) (length config.now.images.items) told)) }
 {
-    let Ok((ground, ends, passes)) = ground_of::<K>(alloc, plan.images.len(), blank) else {
+    let Ok((ground, ends, passes)) = ground_of::<K>(alloc, config.images.len(), blank) else {
         return (Err(FollowFault::Run(RunFault::Memory)), follower);
     };
     let herald = Herald::new(alloc);
@@ -108,7 +109,7 @@ fn run_named<
     let cluster = Cluster {
         rt,
         alloc,
-        plan,
+        config,
         gate,
         opener,
         shared: &ground.shared,
@@ -129,8 +130,8 @@ fn run_named<
 }
 
 /// Runs a cluster as [`run_cluster`](crate::run_cluster) does, and tells `follower` of its outputs as they are released: those of a
-/// process in order and each once, those of different processes in the order in which they were released. It comes back beside the
-/// report, which is of what it was told. Where a run is refused, it was told of what was released by then; of less where memory
+/// process in order and each once, those of different processes in the order in which they were released. It comes back beside how
+/// the run ended; no output is kept that it was told of. Where a run is refused, it was told of what was released by then; of less where memory
 /// ran out for what is released, or it wanted no more.
 ///
 /// Refused with `Unwanted` where the follower wanted no more, which stops all workers; else as `run_cluster` is, and with `Memory`
@@ -147,12 +148,12 @@ pub fn run_and_follow<
     gate: &G,
     opener: &O,
     follower: F,
-) -> (Result<Report, FollowFault>, F)
+) -> (Result<FollowedReport, FollowFault>, F)
     requires some { 1 ≤ length config.now.images.items }
     requires few { length config.now.images.items ≤ MAX_PROCESSES }
     requires start { F.Tells follower follower [] }
-    ensures report { IfOk result.0 (IsReport (AreAlwaysClean O.Store.is_clean) (map program_of config.now.images.items)) }
-    ensures told { IfOk result.0 (λ report. (told : List Told) × F.Tells follower result.1 told × TellsAll told report.released.items) }
+    ensures told { IfOk result.0 (λ report. (told : List Told) × F.Tells follower result.1 told
+        × IsToldReport (AreAlwaysClean O.Store.is_clean) (map program_of config.now.images.items) report.statuses.items report.front told) }
     ensures partly { IfErr result.0 (λ fault. fault ≢ Unwanted → (told : List Told) × F.Tells follower result.1 told × AreInOrder told
         × (AreAlwaysClean O.Store.is_clean → AreToldMade (map program_of config.now.images.items) (length config.now.images.items) told)) }
 {

@@ -133,14 +133,14 @@ pub(crate) fn gathered<K: Naming, R: Wait, G, O: Opener<R>>(
     cluster: &Cluster<'_, K, R, G, O>,
     results: Vec<Result<Finished<K, O::Store>, RunFault>>,
 ) -> Result<Parts<K, O::Store>, RunFault>
-    requires images { length cluster.now.plan.now.images.items ≡ K.cell.n }
+    requires images { length cluster.now.config.now.images.items ≡ K.cell.n }
     requires network { IsNetwork K.cell.n cluster.now.inboxes.now }
     requires long { vec_len results ≡ K.cell.n }
-    requires each { AreEndsOf O.Store.is_clean cluster.now.plan.now.images.items cluster.now.inboxes.now K.cell.n results.items }
-    requires own { AreOwnEnds cluster.now.plan.now K.cell.n results.items }
+    requires each { AreEndsOf O.Store.is_clean cluster.now.config.now.images.items cluster.now.inboxes.now K.cell.n results.items }
+    requires own { AreOwnEnds cluster.now.config.now K.cell.n results.items }
     requires some { 1 ≤ K.cell.n }
-    ensures parts { IfOk result (AreParts O.Store.is_clean cluster.now.plan.now.images.items cluster.now.inboxes.now) }
-    ensures given { OnOk result (IsGiven cluster.now.plan.now) }
+    ensures parts { IfOk result (AreParts O.Store.is_clean cluster.now.config.now.images.items cluster.now.inboxes.now) }
+    ensures given { OnOk result (IsGiven cluster.now.config.now) }
     ensures fault { IfErr result (λ f. IsLeastFault results.items f ⊎ (f ≡ Memory)) }
     ensures own { IfErr result (IsFaultOf K.cell.n) }
 {

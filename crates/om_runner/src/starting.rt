@@ -18,8 +18,8 @@ use om_process::Image;
 use om_report::RunFault;
 use om_stable::Stable;
 use om_tickets::{Opened, Series};
-use om_worker::{Cluster, Finished, Job, Links, stop_all, work_or_stop};
-use om_worker_parts::{Config, Ends, Gate, Opener};
+use om_worker::{Cluster, Finished, Job, stop_all, work_or_stop};
+use om_worker_parts::{Config, Ends, Gate, Links, Opener};
 use std::marker::{Brand, PhantomData};
 use std::sync::Wait;
 use std::thread;
@@ -29,7 +29,7 @@ use std::time::Clock;
 // What the thread of a process promises: of which run, which image, which inboxes, which process and how many.
 #[derive(Drop)]
 pub(crate) struct EndOf<'a, S: Stable> {
-    plan: &'a Config,
+    config: &'a Config,
     image: &'a Image,
     inboxes: &'a [Vec<Inbox>],
     own: Pid,
@@ -39,7 +39,7 @@ pub(crate) struct EndOf<'a, S: Stable> {
 
 impl<'a, K: Naming, S: Stable> Promise<Result<Finished<K, S>, RunFault>> for EndOf<'a, S> {
     ghost kept_by = { λ p r. IfOk r (λ f. IsEndOf S.is_clean (program_of p.image.now) p.inboxes.now p.own p.n f)
-        × IsOwnEnd p.plan.now p.own r };
+        × IsOwnEnd p.config.now p.own r };
 }
 
 type Handle<'s, K, S> = PromisedHandle<Result<Finished<K, S>, RunFault>, EndOf<'s, S>>;
@@ -61,14 +61,14 @@ fn start<
 ) -> Option<Handle<'s, K, O::Store>>
     requires program { slice_get K.programs job.links.own ≡ Some (program_of image.now) }
     requires clean { K.OverClean → AreAlwaysClean O.Store.is_clean }
-    ensures plan { IfSome result (λ h. h.promise.plan.now ≡ cluster.entry.now.plan.now) }
+    ensures config { IfSome result (λ h. h.promise.config.now ≡ cluster.entry.now.config.now) }
     ensures image { IfSome result (λ h. h.promise.image.now ≡ image.entry.now) }
     ensures inboxes { IfSome result (λ h. h.promise.inboxes.now ≡ job.entry.links.lines) }
     ensures own { IfSome result (λ h. h.promise.own ≡ job.entry.links.own) }
     ensures n { IfSome result (λ h. h.promise.n ≡ K.cell.n) }
 {
     let end = EndOf {
-        plan: cluster.plan,
+        config: cluster.config,
         image,
         inboxes: job.links.inboxes(),
         own: job.links.own(),
@@ -139,7 +139,7 @@ fn start_apart<
     requires program { slice_get K.programs links.own ≡ Some (program_of image.now) }
     requires clean { K.OverClean → AreAlwaysClean O.Store.is_clean }
     requires book { opened.seen.book ≡ J.book }
-    ensures plan { IfSome result (λ h. h.promise.plan.now ≡ cluster.entry.now.plan.now) }
+    ensures config { IfSome result (λ h. h.promise.config.now ≡ cluster.entry.now.config.now) }
     ensures image { IfSome result (λ h. h.promise.image.now ≡ image.entry.now) }
     ensures inboxes { IfSome result (λ h. h.promise.inboxes.now ≡ links.entry.lines) }
     ensures own { IfSome result (λ h. h.promise.own ≡ links.entry.own) }
@@ -173,13 +173,13 @@ fn start_all<
     mut passes: Vec<Pass<K>>,
     mut handles: Vec<Handle<'s, K, O::Store>>,
 ) -> Option<Vec<Handle<'s, K, O::Store>>>
-    requires named { IsNamedFor O.Store.is_clean K.OverClean K.programs K.cell.n cluster.now.plan.now.images.items }
+    requires named { IsNamedFor O.Store.is_clean K.OverClean K.programs K.cell.n cluster.now.config.now.images.items }
     requires ready { CanStart K.cell.n cluster.now.inboxes.now ends.items (vec_len passes) }
     requires none { vec_len handles ≡ 0 }
     requires room { K.cell.n ≤ vec_capacity handles }
     ensures long { IfSome result (λ v. vec_len v ≡ K.cell.n) }
     ensures each { IfSome result (λ v. (i : ℕ) (a : Image) (h : _) → i < vec_len v
-        → IsPromised cluster.entry.now.plan.now (slice_index_or cluster.entry.now.plan.now.images.items i a)
+        → IsPromised cluster.entry.now.config.now (slice_index_or cluster.entry.now.config.now.images.items i a)
         cluster.entry.now.inboxes.now i K.cell.n
         (slice_index_or v.items i h).promise) }
 {
@@ -197,7 +197,7 @@ fn start_all<
             cluster.bells,
             cluster.received,
         );
-        let image = &cluster.plan.images[own];
+        let image = &cluster.config.images[own];
         let opened = Opened::new();
         let Some(handle) = start_apart::<E, K, Brand, R, G, O>(
             scope, cluster, image, links, pass, opened,
@@ -227,13 +227,13 @@ pub(crate) fn run_scoped<
     Result<Vec<Result<Finished<K, O::Store>, RunFault>>, RunFault>,
     B,
 )
-    requires named { IsNamedFor O.Store.is_clean K.OverClean K.programs K.cell.n cluster.now.plan.now.images.items }
+    requires named { IsNamedFor O.Store.is_clean K.OverClean K.programs K.cell.n cluster.now.config.now.images.items }
     requires ready { CanStart K.cell.n cluster.now.inboxes.now ends.items (vec_len passes) }
     requires same { B.Becomes beside beside }
     ensures long { IfOk result.0 (λ v. vec_len v ≡ K.cell.n) }
-    ensures each { IfOk result.0 (λ v. AreEndsOf O.Store.is_clean cluster.now.plan.now.images.items
+    ensures each { IfOk result.0 (λ v. AreEndsOf O.Store.is_clean cluster.now.config.now.images.items
         cluster.now.inboxes.now K.cell.n v.items) }
-    ensures own { IfOk result.0 (λ v. AreOwnEnds cluster.now.plan.now K.cell.n v.items) }
+    ensures own { IfOk result.0 (λ v. AreOwnEnds cluster.now.config.now K.cell.n v.items) }
     ensures fault { IfErr result.0 (IsFaultOf K.cell.n) }
     ensures beside { B.Becomes beside result.1 }
 {
@@ -244,13 +244,13 @@ pub(crate) fn run_scoped<
             Result<Vec<Result<Finished<K, O::Store>, RunFault>>, RunFault>,
             B,
         )
-            requires named { IsNamedFor O.Store.is_clean K.OverClean K.programs K.cell.n cluster.now.plan.now.images.items }
+            requires named { IsNamedFor O.Store.is_clean K.OverClean K.programs K.cell.n cluster.now.config.now.images.items }
             requires ready { CanStart K.cell.n cluster.now.inboxes.now ends.items (vec_len passes) }
             requires same { B.Becomes beside beside }
             ensures long { IfOk result.0 (λ v. vec_len v ≡ K.cell.n) }
-            ensures each { IfOk result.0 (λ v. AreEndsOf O.Store.is_clean cluster.entry.now.plan.now.images.items
+            ensures each { IfOk result.0 (λ v. AreEndsOf O.Store.is_clean cluster.entry.now.config.now.images.items
                 cluster.entry.now.inboxes.now K.cell.n v.items) }
-            ensures own { IfOk result.0 (λ v. AreOwnEnds cluster.entry.now.plan.now K.cell.n v.items) }
+            ensures own { IfOk result.0 (λ v. AreOwnEnds cluster.entry.now.config.now K.cell.n v.items) }
             ensures fault { IfErr result.0 (IsFaultOf K.cell.n) }
             ensures beside { B.Becomes beside result.1 }
         {

@@ -231,31 +231,68 @@ struct Refused {
     memory: bool,
 }
 
-// Plays the rows. A call that is refused for a Fault, or out of memory where a run refuses an
-// allocation, is played once more: it has left all as it was.
-fn play<S: Stable>(rt: &impl Abort, alloc: Global, store: &mut S, rows: &[Row]) -> Refused {
-    let mut fault = None;
-    let mut memory = false;
-    for (i, (call, want)) in rows.iter().enumerate() {
-        let mut got = answer(rt, alloc, store, *call);
-        for _ in 0..2 {
-            match got {
-                Err(StoreError::Memory) => memory = true,
-                Err(StoreError::Fault) => {
-                    assert_eq!(rt; fault, None);
-                    fault = Some(i);
-                }
-                _ => break,
-            }
-            got = answer(rt, alloc, store, *call);
+// Returns whether a call of a row was refused for a Fault or out of memory, and notes it.
+fn is_refused(
+    rt: &impl Abort,
+    i: usize,
+    got: &Result<Vec<u32>, StoreError>,
+    refused: &mut Refused,
+) -> bool {
+    match got {
+        Err(StoreError::Memory) => refused.memory = true,
+        Err(StoreError::Fault) => {
+            assert!(rt; refused.fault.is_none(), "row {i}");
+            refused.fault = Some(i);
         }
-        let got = match &got {
-            Ok(found) => Ok(found.as_slice()),
-            Err(error) => Err(*error),
-        };
-        assert_eq!(rt; got, *want, "row {i}");
+        _ => return false,
     }
-    Refused { fault, memory }
+    true
+}
+
+// Makes a call of a row. One that is refused for a Fault, or out of memory where a run refuses an allocation, is made once more: it has
+// left all as it was.
+fn answered<S: Stable>(
+    rt: &impl Abort,
+    alloc: Global,
+    store: &mut S,
+    (i, call): (usize, Call),
+    refused: &mut Refused,
+) -> Result<Vec<u32>, StoreError> {
+    let mut got = answer(rt, alloc, store, call);
+    for _ in 0..2 {
+        if !is_refused(rt, i, &got, refused) {
+            break;
+        }
+        got = answer(rt, alloc, store, call);
+    }
+    got
+}
+
+fn check_row(
+    rt: &impl Abort,
+    i: usize,
+    got: &Result<Vec<u32>, StoreError>,
+    want: Result<&'static [u32], StoreError>,
+) {
+    let is_right = match (got, want) {
+        (Ok(found), Ok(want)) => found.as_slice() == want,
+        (Err(error), Err(want)) => *error == want,
+        _ => false,
+    };
+    assert!(rt; is_right, "row {i}: {got:?}");
+}
+
+// Plays the rows, and tells at which a Fault came.
+fn play<S: Stable>(rt: &impl Abort, alloc: Global, store: &mut S, rows: &[Row]) -> Refused {
+    let mut refused = Refused {
+        fault: None,
+        memory: false,
+    };
+    for (i, (call, want)) in rows.iter().enumerate() {
+        let got = answered(rt, alloc, store, (i, *call), &mut refused);
+        check_row(rt, i, &got, *want);
+    }
+    refused
 }
 
 // Plays the rows at a store that does not fail.

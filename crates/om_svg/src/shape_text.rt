@@ -6,7 +6,8 @@ ghost use Rattle.om_svg.specs.ShapeText.{above_of, arrow_text, band_text, change
 ghost use Rattle.om_svg.specs.steps.Marks.{band_at, band_end, band_left, band_start, band_width, circle_at, circle_end, circle_middle, circle_start, circle_x, circle_y, line_kind_text, flush_at, flush_end, flush_start, line_text, path_at, path_middle, path_start, path_tail, square_at, square_class, square_end, square_start, square_x, turning_at, turning_end, turning_start};
 ghost use Rattle.om_sheet.specs.declared.sheet.MessageLine.{MessageLine};
 
-use crate::answer_text::{push_answer, push_event, push_recovery};
+use crate::answer_text::push_recovery;
+use om_event_text::{push_answer, push_event};
 use om_interval::DepVec;
 use om_sheet::{
     Band, Crossing, Glyph, LaneSegment, LineKind, MessageLine, Numbers, SegmentKind, Shape, Spot,

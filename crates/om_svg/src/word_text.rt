@@ -4,7 +4,8 @@ ghost use Rattle.std.specs.Prelude.{◌≡◌, ◌++◌, OnOk, string_bytes};
 ghost use Rattle.std.specs.Option.{option_map};
 ghost use Rattle.om_svg.specs.WordText.{bytes_text, label_text, name_text, end_state_text, style_text, content_text, word_text};
 
-use crate::answer_text::{push_recovery, push_status, why_word};
+use crate::answer_text::{push_recovery, why_word};
+use om_event_text::push_status;
 use om_scripts::Programs;
 use om_sheet::{EndState, LABEL_BYTES, Label, LabelContent, Style, Word};
 use std::alloc::{AllocError, Global};

@@ -1,11 +1,11 @@
 //! What is printed, the form of each, and where it is told.
 
 use om_arguments::{DEBUG_HELP, HELP, IMAGE_HELP, REPLAY_HELP, RUN_HELP, SIM_HELP};
-use om_commands::{CommandError, push_status};
+use om_commands::CommandError;
+use om_event_text::{push_answer, push_status};
 use om_machine::Cause;
 use om_manager::Gathered;
 use om_process::{Accept, Status};
-use om_svg::push_answer;
 use om_text::LineError;
 use om_world::{Answer, Refusal};
 use std::alloc::{AllocError, Global};

@@ -1,2 +1,1 @@
-mod LinkLemmas
 mod StoreLemmas

@@ -4,12 +4,11 @@ ghost use Rattle.std.specs.Prelude.{◌≡◌, ◌≤◌, IfOk, vec_len};
 ghost use Rattle.om_interval.specs.declared.pid.TheConstants.{MAX_PROCESSES};
 ghost use Rattle.om_worker_parts.specs.Wiring.{IsWired};
 
-use crate::received::Received;
 use crate::taking_up::Census;
 use om_board::{Bell, Blank, Inbox, Naming, Pass, Shared, ring_all};
 use om_interval::MAX_PROCESSES;
 use om_observers::Observers;
-use om_worker_parts::{Config, Ends, Network, connected};
+use om_worker_parts::{Config, Ends, Network, Received, connected};
 use std::alloc::{AllocError, Global};
 use std::sync::atomic::Ordering::SeqCst;
 use std::sync::atomic::{AtomicBool, AtomicU64};
@@ -19,7 +18,7 @@ use std::sync::atomic::{AtomicBool, AtomicU64};
 pub struct Cluster<'s, K: Naming, R, G, O> {
     pub rt: &'s R,
     pub alloc: Global,
-    pub plan: &'s Config,
+    pub config: &'s Config,
     pub gate: &'s G,
     pub opener: &'s O,
     pub shared: &'s Shared<K>,

@@ -9,13 +9,11 @@
 //! - `ground`: what all threads have in common; `working`: what each does, from the gate to the end; `finished`: what it brings back
 //! - `taking_up`: how a process is taken up from what an earlier run left
 //! - `turns` and `worker`: what a thread does, turn by turn; `worker::rounds`, `worker::storing`, `worker::resting`
-//! - what a worker has: its node (om_node), its way to the manager (om_worker_parts), `links` (its ends of inboxes), `received` (what a resend may leave out)
+//! - what a worker has: its node (om_node), its way to the manager and its ends of inboxes (om_worker_parts)
 #![tactic(auto)]
 
 mod finished;
 mod ground;
-mod links;
-mod received;
 mod taking_up;
 mod turns;
 mod worker;
@@ -23,7 +21,5 @@ mod working;
 
 pub use finished::Finished;
 pub use ground::{Cluster, Ground, ground_of, stop_all};
-pub use links::Links;
-pub use received::Received;
 pub use taking_up::Census;
 pub use working::{Job, work_or_stop};

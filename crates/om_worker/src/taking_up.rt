@@ -240,20 +240,26 @@ pub(crate) fn take_up<'a, K: Naming, J: Series, R: Wait + Clock, G, O: Opener<R>
     cluster: &Cluster<'a, K, R, G, O>,
     worker: &mut Worker<'a, K>,
     image: &'a Image,
-    line: Option<FlightChannel<J, O::Store>>,
+    channel: Option<FlightChannel<J, O::Store>>,
 ) -> Result<(DownNode<'a, J, O::Store>, u64), RunFault>
     requires few { K.cell.n ≤ MAX_PROCESSES }
     requires unsure { AreNeverClean O.Store.is_clean }
     requires clean { K.OverClean → AreAlwaysClean O.Store.is_clean }
     ensures same { worker.new.links ≡ worker.old.links }
     ensures member { IfOk result (λ made. made.0 ≡ record { program = program_of image.entry.now; own = worker.old.links.own; n = K.cell.n }) }
-    ensures left { IfOk result (λ made. made.1 ≤ cluster.now.plan.now.turns) }
+    ensures left { IfOk result (λ made. made.1 ≤ cluster.now.config.now.turns) }
     ensures fault { IfErr result (IsFaultBy worker.old.links.own) }
 {
     let (pid, n, alloc) = (worker.pid(), worker.n(), cluster.alloc);
     let census = cluster.census;
     let before = pid.index().min(1) as u64;
-    let left = wait_for(cluster, worker, &census.opened, before, cluster.plan.turns)?;
+    let left = wait_for(
+        cluster,
+        worker,
+        &census.opened,
+        before,
+        cluster.config.turns,
+    )?;
     let mut store = opened(cluster, worker)?;
     let found = looked_at(cluster, worker, image, &mut store)?;
     let left = wait_for(cluster, worker, &census.looked, n as u64, left)?;
@@ -265,7 +271,7 @@ pub(crate) fn take_up<'a, K: Naming, J: Series, R: Wait + Clock, G, O: Opener<R>
     if let Err(fault) = worker.take_up(cluster.rt, alloc, found) {
         return Err(run_fault(fault, pid));
     }
-    match DownNode::over(alloc, image, pid, n, store, line) {
+    match DownNode::over(alloc, image, pid, n, store, channel) {
         Ok(down_node) => Ok((down_node, left)),
         Err(_) => Err(RunFault::Memory),
     }

@@ -1,13 +1,12 @@
 //! The turns of a worker, to its process's end.
 
-ghost use Rattle.std.specs.Prelude.{◌≡◌, ◌<◌, ◌≤◌, All, false, IfErr, IfOk, IsTrue, OnOk, Some, length, slice_get};
+ghost use Rattle.std.specs.Prelude.{◌≡◌, ◌<◌, ◌≤◌, All, false, IfErr, IfOk, IsTrue, OnOk, length};
 ghost use Rattle.om_node.specs.Ends.{IsWholeRun};
 ghost use Rattle.om_process.specs.Core.{IsEnd};
 ghost use Rattle.om_worker.specs.Ends.{IsEndOf};
 ghost use Rattle.om_report.specs.Faults.{IsFaultBy};
 ghost use Rattle.om_worker.specs.steps.Turning.{IsTurned};
-ghost use Rattle.om_node.specs.Nodes.{AreAlwaysClean};
-ghost use Rattle.om_worker_parts.specs.Places.{IsLanded, member_of};
+ghost use Rattle.om_worker_parts.specs.Places.{IsProcessOf, IsLanded, member_of};
 
 use crate::finished::Finished;
 use crate::worker::Worker;
@@ -69,25 +68,22 @@ fn take_turn<'a, K: Naming, J: Series, S: Ledger, R: Wait + Clock>(
     rt: &R,
     alloc: Global,
     worker: &mut Worker<'a, K>,
-    place: WorkerState<'a, J, S>,
+    state: WorkerState<'a, J, S>,
     pass: Pass<K>,
 ) -> Result<AfterTurn<'a, K, J, S>, RunFault>
-    requires own { (member_of place).own ≡ worker.old.links.own }
-    requires program { slice_get K.programs (member_of place).own ≡ Some (member_of place).program }
-    requires size { (member_of place).n ≡ K.cell.n }
-    requires clean { K.OverClean → AreAlwaysClean S.is_clean }
-    requires landed { IsLanded place }
+    requires process { IsProcessOf S.is_clean K.OverClean K.programs K.cell.n worker.old.links.own (member_of state) }
+    requires landed { IsLanded state }
     ensures same { worker.new.links ≡ worker.old.links }
-    ensures turned { IfOk result (λ t. IsTurned S.is_clean (member_of place.entry) t) }
+    ensures turned { IfOk result (λ t. IsTurned S.is_clean (member_of state.entry) t) }
     ensures fault { IfErr result (IsFaultBy worker.old.links.own) }
 {
-    let (place, pass) = match worker.shown_turn(rt, alloc, place, pass) {
+    let (state, pass) = match worker.shown_turn(rt, alloc, state, pass) {
         Ok(turned) => turned,
         Err(worker_fault) => return Err(run_fault(worker_fault, worker.pid())),
     };
-    match place {
+    match state {
         WorkerState::AllQuiet(node) => leave(rt, alloc, worker, node, pass),
-        place => Ok(AfterTurn::On(place, pass)),
+        state => Ok(AfterTurn::On(state, pass)),
     }
 }
 
@@ -99,41 +95,38 @@ fn turns_until_over<'a, K: Naming, J: Series, S: Ledger, R: Wait + Clock>(
     turns: u64,
     stop: &AtomicBool,
     worker: &mut Worker<'a, K>,
-    place: WorkerState<'a, J, S>,
+    state: WorkerState<'a, J, S>,
     pass: Pass<K>,
 ) -> Result<(Status, Harvest<K>, S), RunFault>
-    requires own { (member_of place).own ≡ worker.old.links.own }
-    requires program { slice_get K.programs (member_of place).own ≡ Some (member_of place).program }
-    requires size { (member_of place).n ≡ K.cell.n }
-    requires clean { K.OverClean → AreAlwaysClean S.is_clean }
-    requires landed { IsLanded place }
+    requires process { IsProcessOf S.is_clean K.OverClean K.programs K.cell.n worker.old.links.own (member_of state) }
+    requires landed { IsLanded state }
     ensures same { worker.new.links ≡ worker.old.links }
     ensures ended { IfOk result (λ end. IsEnd end.0) }
-    ensures own { let m = member_of place.entry in IfOk result (λ end. end.1.own ≡ m.own) }
-    ensures whole { let m = member_of place.entry in IfOk result (λ end. IsTrue (S.is_clean end.2)
+    ensures own { let m = member_of state.entry in IfOk result (λ end. end.1.own ≡ m.own) }
+    ensures whole { let m = member_of state.entry in IfOk result (λ end. IsTrue (S.is_clean end.2)
         → IsWholeRun m.program m.own m.n end.0 (length end.1.outputs.items)) }
     ensures given { OnOk result (1 ≤ turns) }
     ensures fault { IfErr result (IsFaultBy worker.old.links.own) }
 {
     let mut pass = pass;
-    let mut place = place;
+    let mut state = state;
     let mut left = turns;
     while left > 0 {
         left -= 1;
         if stop.load(SeqCst) {
             break;
         }
-        match take_turn(rt, alloc, worker, place, pass)? {
+        match take_turn(rt, alloc, worker, state, pass)? {
             AfterTurn::On(next, met) => {
                 left = left.saturating_sub(worker.extra());
-                place = next;
+                state = next;
                 pass = met;
             }
             AfterTurn::Over(status, harvest, store) => return Ok((status, harvest, store)),
         }
     }
     // Dropped by a call: at the end of the scope each part of each place would be dropped in turn.
-    drop(place);
+    drop(state);
     Err(RunFault::Turns(worker.pid()))
 }
 
@@ -144,15 +137,12 @@ pub(crate) fn take_turns<'a, K: Naming, J: Series, S: Ledger, R: Wait + Clock>(
     turns: u64,
     stop: &AtomicBool,
     worker: Worker<'a, K>,
-    place: WorkerState<'a, J, S>,
+    state: WorkerState<'a, J, S>,
     pass: Pass<K>,
 ) -> Result<Finished<K, S>, RunFault>
-    requires own { (member_of place).own ≡ worker.links.own }
-    requires program { slice_get K.programs (member_of place).own ≡ Some (member_of place).program }
-    requires size { (member_of place).n ≡ K.cell.n }
-    requires clean { K.OverClean → AreAlwaysClean S.is_clean }
-    requires landed { IsLanded place }
-    ensures end { let m = member_of place.entry in
+    requires process { IsProcessOf S.is_clean K.OverClean K.programs K.cell.n worker.links.own (member_of state) }
+    requires landed { IsLanded state }
+    ensures end { let m = member_of state.entry in
         IfOk result (λ f. IsEndOf S.is_clean m.program worker.entry.links.lines m.own m.n f) }
     ensures given { OnOk result (1 ≤ turns) }
     ensures fault { IfErr result (IsFaultBy worker.entry.links.own) }
@@ -164,7 +154,7 @@ pub(crate) fn take_turns<'a, K: Naming, J: Series, S: Ledger, R: Wait + Clock>(
         turns,
         stop,
         &mut worker,
-        place,
+        state,
         pass,
     )?;
     let (ends, witness) = worker.into_ends();

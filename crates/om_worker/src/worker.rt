@@ -1,13 +1,12 @@
 //! What the thread of a process does.
 
-ghost use Rattle.std.specs.Prelude.{◌≡◌, ◌<◌, ◌+◌, ◌⊎◌, [], false, IfNone, IfOk, IfSome, None, Ok, OnOk, Some, length, slice_get, true};
+ghost use Rattle.std.specs.Prelude.{◌≡◌, ◌<◌, ◌+◌, ◌⊎◌, [], false, IfNone, IfOk, IfSome, None, Ok, OnOk, Some, length, true};
 ghost use Rattle.om_member.specs.Handed.{outputs_from};
 ghost use Rattle.om_process.specs.Core.{IsEnd};
 ghost use Rattle.om_format.specs.declared.message.Message.{Message};
 ghost use Rattle.om_worker_parts.specs.Acts.{HasReleasedAnother};
 ghost use Rattle.om_report.specs.Locks.{UnderLock};
-ghost use Rattle.om_node.specs.Nodes.{AreAlwaysClean};
-ghost use Rattle.om_worker_parts.specs.Places.{IsLanded, member_of, IsLandedAt};
+ghost use Rattle.om_worker_parts.specs.Places.{IsProcessOf, IsLanded, member_of, IsLandedAt};
 ghost use Rattle.om_worker.specs.steps.Turning.{HasNothingToSay, HasReported, HasRun, IsOffered, IsTurnOf};
 ghost use Rattle.om_worker_parts.specs.Wiring.{HasEnds};
 
@@ -15,7 +14,6 @@ mod resting;
 mod rounds;
 mod storing;
 
-use crate::links::{Links, Taken};
 use om_board::{Naming, Pass, Shared};
 use om_interval::Pid;
 use om_node::{Due, Kept, Node, WorkerFault};
@@ -26,8 +24,8 @@ use om_restart::Found;
 use om_stable::{Ledger, Stable};
 use om_tickets::Series;
 use om_worker_parts::{
-    Barrier, Config, Ends, Idle, ManagerLink, ManagerPhase, Pause, SpinPolicy, TurnOutcome,
-    WorkerState,
+    Barrier, Config, Ends, Idle, Links, ManagerLink, ManagerPhase, Pause, SpinPolicy, Taken,
+    TurnOutcome, WorkerState,
 };
 use std::alloc::Global;
 use std::sync::Wait;
@@ -43,7 +41,7 @@ const ALL_RECEIPTS: usize = usize::MAX;
 // would be, which the prover goes through one by one.
 #[derive(Drop)]
 pub(crate) struct Worker<'a, K: Naming> {
-    plan: &'a Config,
+    config: &'a Config,
     manager_link: ManagerLink<'a, K>,
     links: Links<'a>,
     barrier: Barrier<'a>,
@@ -109,7 +107,7 @@ fn last_checkpoint(rows: &[PendingRow]) -> u32 {
 
 impl<'a, K: Naming> Worker<'a, K> {
     pub(crate) fn new(
-        plan: &'a Config,
+        config: &'a Config,
         shared: &'a Shared<K>,
         links: Links<'a>,
         barrier: Barrier<'a>,
@@ -122,7 +120,7 @@ impl<'a, K: Naming> Worker<'a, K> {
     {
         let own = links.own();
         Worker {
-            plan,
+            config,
             manager_link: ManagerLink::new(own, shared),
             links,
             barrier,
@@ -253,21 +251,18 @@ impl<'a, K: Naming> Worker<'a, K> {
         &mut self,
         rt: &R,
         alloc: Global,
-        place: WorkerState<'a, J, S>,
+        state: WorkerState<'a, J, S>,
         pass: Pass<K>,
     ) -> Result<(WorkerState<'a, J, S>, Pass<K>), WorkerFault>
-        requires own { (member_of place).own ≡ self.old.links.own }
-        requires program { slice_get K.programs (member_of place).own ≡ Some (member_of place).program }
-        requires size { (member_of place).n ≡ K.cell.n }
-        requires clean { K.OverClean → AreAlwaysClean S.is_clean }
-        requires landed { IsLanded place }
+        requires process { IsProcessOf S.is_clean K.OverClean K.programs K.cell.n self.old.links.own (member_of state) }
+        requires landed { IsLanded state }
         ensures same { self.new.links ≡ self.old.links }
-        ensures place { IfOk result (λ r. member_of r.0 ≡ member_of place.entry) }
+        ensures place { IfOk result (λ r. member_of r.0 ≡ member_of state.entry) }
         ensures landed { IfOk result (λ r. IsLanded r.0) }
-        ensures turned { IfOk result (λ r. IsTurnOf K.cell.n self.old.manager_link.round place.entry r.0) }
+        ensures turned { IfOk result (λ r. IsTurnOf K.cell.n self.old.manager_link.round state.entry r.0) }
     {
         self.extra = 0;
-        match place {
+        match state {
             WorkerState::Up(node) => self.go_on(rt, alloc, node, pass),
             WorkerState::MustJoin(node) => self.join(rt, alloc, node, pass),
             WorkerState::Joined(node) => self.wait_in(rt, alloc, node, pass),
@@ -283,22 +278,19 @@ impl<'a, K: Naming> Worker<'a, K> {
         &mut self,
         rt: &R,
         alloc: Global,
-        place: WorkerState<'a, J, S>,
+        state: WorkerState<'a, J, S>,
         pass: Pass<K>,
     ) -> Result<(WorkerState<'a, J, S>, Pass<K>), WorkerFault>
-        requires own { (member_of place).own ≡ self.old.links.own }
-        requires program { slice_get K.programs (member_of place).own ≡ Some (member_of place).program }
-        requires size { (member_of place).n ≡ K.cell.n }
-        requires clean { K.OverClean → AreAlwaysClean S.is_clean }
-        requires landed { IsLanded place }
+        requires process { IsProcessOf S.is_clean K.OverClean K.programs K.cell.n self.old.links.own (member_of state) }
+        requires landed { IsLanded state }
         ensures same { self.new.links ≡ self.old.links }
-        ensures place { IfOk result (λ r. member_of r.0 ≡ member_of place.entry) }
+        ensures place { IfOk result (λ r. member_of r.0 ≡ member_of state.entry) }
         ensures landed { IfOk result (λ r. IsLanded r.0) }
     {
         if self.watch.is_none() {
-            return self.turn(rt, alloc, place, pass);
+            return self.turn(rt, alloc, state, pass);
         }
-        let mut turned = self.turn(rt, alloc, place, pass)?;
+        let mut turned = self.turn(rt, alloc, state, pass)?;
         self.show(rt, &mut turned);
         Ok(turned)
     }
@@ -337,10 +329,7 @@ impl<'a, K: Naming> Worker<'a, K> {
         node: Node<'a, J, S>,
         pass: Pass<K>,
     ) -> Result<(WorkerState<'a, J, S>, Pass<K>), WorkerFault>
-        requires own { node.member.own ≡ self.old.links.own }
-        requires program { slice_get K.programs node.member.own ≡ Some node.member.program }
-        requires size { node.member.n ≡ K.cell.n }
-        requires clean { K.OverClean → AreAlwaysClean S.is_clean }
+        requires { IsProcessOf S.is_clean K.OverClean K.programs K.cell.n self.old.links.own node.member }
         ensures same { self.new.links ≡ self.old.links }
         ensures place { IfOk result (λ r. member_of r.0 ≡ node.entry.member) }
         ensures landed { IfOk result (λ r. IsLanded r.0) }
@@ -350,7 +339,7 @@ impl<'a, K: Naming> Worker<'a, K> {
         }
         let mut node = node;
         match self.step(rt, alloc, &mut node) {
-            Ok(step) => Ok((step.place_of(node), pass)),
+            Ok(turn_outcome) => Ok((turn_outcome.place_of(node), pass)),
             Err(worker_fault) => {
                 drop(node);
                 Err(worker_fault)
@@ -366,20 +355,17 @@ impl<'a, K: Naming> Worker<'a, K> {
         alloc: Global,
         node: &mut Node<'a, J, S>,
     ) -> Result<TurnOutcome, WorkerFault>
-        requires own { node.old.member.own ≡ self.old.links.own }
-        requires program { slice_get K.programs node.old.member.own ≡ Some node.old.member.program }
-        requires size { node.old.member.n ≡ K.cell.n }
-        requires clean { K.OverClean → AreAlwaysClean S.is_clean }
+        requires { IsProcessOf S.is_clean K.OverClean K.programs K.cell.n self.old.links.own node.old.member }
         ensures same { self.new.links ≡ self.old.links }
         ensures member { node.new.member ≡ node.old.member }
-        ensures landed { IfOk result (λ step. IsLandedAt step node.new) }
+        ensures landed { IfOk result (λ turn_outcome. IsLandedAt turn_outcome node.new) }
     {
         self.look(rt, node)?;
         match self.advance(rt, alloc, node)? {
             TurnOutcome::Up => Ok(TurnOutcome::Up),
-            step => {
+            turn_outcome => {
                 self.recall(rt, node)?;
-                Ok(step)
+                Ok(turn_outcome)
             }
         }
     }
@@ -392,17 +378,14 @@ impl<'a, K: Naming> Worker<'a, K> {
         alloc: Global,
         node: &mut Node<'a, J, S>,
     ) -> Result<TurnOutcome, WorkerFault>
-        requires own { node.old.member.own ≡ self.old.links.own }
-        requires program { slice_get K.programs node.old.member.own ≡ Some node.old.member.program }
-        requires size { node.old.member.n ≡ K.cell.n }
-        requires clean { K.OverClean → AreAlwaysClean S.is_clean }
+        requires { IsProcessOf S.is_clean K.OverClean K.programs K.cell.n self.old.links.own node.old.member }
         ensures same { self.new.links ≡ self.old.links }
         ensures member { node.new.member ≡ node.old.member }
     {
         let status = self.run(rt, alloc, node)?;
         let called = self.manager_link.is_called(self.manager_link.failures());
-        let standing = self.report(rt, alloc, node, status, called)?;
-        match standing {
+        let phase = self.report(rt, alloc, node, status, called)?;
+        match phase {
             ManagerPhase::Closed => {
                 if !status.has_ended() {
                     self.launch(rt, alloc, node)?;
@@ -428,7 +411,7 @@ impl<'a, K: Naming> Worker<'a, K> {
         requires size { node.old.member.n ≡ K.cell.n }
         ensures same { self.new.links ≡ self.old.links }
         ensures member { node.new.member ≡ node.old.member }
-        ensures ran { IfOk result (λ status. HasRun node.old.core self.old.plan.now.fuel status node.new.core.now) }
+        ensures ran { IfOk result (λ status. HasRun node.old.core self.old.config.now.fuel status node.new.core.now) }
         ensures stored { IfOk result (λ status. IsEnd status → node.new.core.log ≡ []) }
         ensures landed { IfOk result (λ status. IsEnd status → node.new.away ≡ false) }
     {
@@ -436,7 +419,7 @@ impl<'a, K: Naming> Worker<'a, K> {
             // Of a run that is recorded what a process stores is noted before it runs on, so that both are one event.
             return Ok(Status::Ready);
         }
-        let ran = node.run(alloc, self.plan.fuel)?;
+        let ran = node.run(alloc, self.config.fuel)?;
         self.diary.ran(rt, node.core(), ran)?;
         if ran.steps > 0 {
             self.change();
@@ -462,28 +445,25 @@ impl<'a, K: Naming> Worker<'a, K> {
         status: Status,
         called: bool,
     ) -> Result<ManagerPhase, WorkerFault>
-        requires own { node.old.member.own ≡ self.old.links.own }
-        requires program { slice_get K.programs node.old.member.own ≡ Some node.old.member.program }
-        requires size { node.old.member.n ≡ K.cell.n }
-        requires clean { K.OverClean → AreAlwaysClean S.is_clean }
+        requires { IsProcessOf S.is_clean K.OverClean K.programs K.cell.n self.old.links.own node.old.member }
         ensures same { self.new.links ≡ self.old.links }
         ensures member { node.new.member ≡ node.old.member }
-        ensures reported { IfOk result (λ standing. HasNothingToSay self.old.manager_link.handed status node.old.core standing node.new.core
-            ⊎ HasReported K.cell.n self.old.manager_link.pid self.old.manager_link.round status node.old.core standing) }
+        ensures reported { IfOk result (λ phase. HasNothingToSay self.old.manager_link.handed status node.old.core phase node.new.core
+            ⊎ HasReported K.cell.n self.old.manager_link.pid self.old.manager_link.round status node.old.core phase) }
         ensures idle { let link = self.old.manager_link in (IsEnd status → ⊥) → called ≡ false → node.old.core.pending ≡ []
             → outputs_from node.old.core link.handed ≡ []
-            → IfOk result (λ standing. HasNothingToSay link.handed status node.old.core standing node.new.core) }
+            → IfOk result (λ phase. HasNothingToSay link.handed status node.old.core phase node.new.core) }
     {
         let ended = status.has_ended();
         if !self.manager_link.is_due(node.core(), ended, called) {
             return Ok(ManagerPhase::Closed);
         }
         let is_patient = self.patience.is_patient();
-        let (standing, limits) = self
+        let (phase, limits) = self
             .manager_link
             .meet(rt, alloc, node, ended, is_patient, &mut self.diary)?;
         self.apply_limits(alloc, node, limits, ended)?;
-        Ok(standing)
+        Ok(phase)
     }
 
     // Takes a message, where the process waits for one. What comes to one that has ended is dropped: a round that rolls it back
@@ -546,7 +526,7 @@ impl<'a, K: Naming> Worker<'a, K> {
     ) -> Result<TurnOutcome, WorkerFault>
         ensures same { self.new.links ≡ self.old.links }
         ensures member { node.new.member ≡ node.old.member }
-        ensures offered { OnOk result (IsOffered node.old.core taken.now.message node.new.core.now) }
+        ensures offered { OnOk result (IsOffered node.old.core taken.now node.new.core.now) }
     {
         let message = taken.message();
         let answer = node.accept(alloc, message);

@@ -11,7 +11,6 @@ ghost use Rattle.om_node.specs.Nodes.{AreAlwaysClean};
 
 use crate::finished::Finished;
 use crate::ground::{Cluster, stop_all};
-use crate::links::Links;
 use crate::taking_up::{open_fault, take_up};
 use crate::turns::take_turns;
 use crate::worker::Worker;
@@ -22,7 +21,7 @@ use om_process::Image;
 use om_report::RunFault;
 use om_stable::Stable;
 use om_tickets::Series;
-use om_worker_parts::{Barrier, Gate, Opener, WorkerState, load_fault};
+use om_worker_parts::{Barrier, Gate, Links, Opener, WorkerState, load_fault};
 use std::alloc::{AllocError, Global};
 use std::sync::Wait;
 use std::thread;
@@ -86,17 +85,17 @@ fn admit<'a, K: Naming, J: Series, R: Wait, G: Gate, O: Opener<R>>(
     channel: Option<FlightChannel<J, O::Store>>,
 ) -> Result<(Node<'a, J, O::Store>, Vec<u32>), RunFault>
     ensures member { IfOk result (λ made. made.0.member ≡ record { program = program_of image.entry.now; own = pid; n = n }) }
-    ensures asked { OnOk result (1 ≤ cluster.now.plan.now.gate_turns) }
+    ensures asked { OnOk result (1 ≤ cluster.now.config.now.gate_turns) }
     ensures fault { IfErr result (IsFaultBy pid) }
 {
     let Cluster {
         rt,
         alloc,
-        plan,
+        config,
         ..
     } = *cluster;
-    pass_gate(cluster.gate, plan.gate_turns, pid)?;
-    let Ok(kills) = kills_of(alloc, &plan.kills, pid) else {
+    pass_gate(cluster.gate, config.gate_turns, pid)?;
+    let Ok(kills) = kills_of(alloc, &config.kills, pid) else {
         return Err(RunFault::Memory);
     };
     let node = begin(rt, alloc, cluster.opener, image, pid, n, channel)?;
@@ -113,7 +112,7 @@ fn work_anew<'a, K: Naming, J: Series, R: Wait + Clock, G: Gate, O: Opener<R>>(
     requires clean { K.OverClean → AreAlwaysClean O.Store.is_clean }
     ensures end { let l = job.entry.links in
         IfOk result (λ f. IsEndOf O.Store.is_clean (program_of image.entry.now) l.lines l.own l.n f) }
-    ensures own { IsOwnEnd cluster.now.plan.now job.entry.links.own result }
+    ensures own { IsOwnEnd cluster.now.config.now job.entry.links.own result }
 {
     let Job {
         links,
@@ -125,7 +124,7 @@ fn work_anew<'a, K: Naming, J: Series, R: Wait + Clock, G: Gate, O: Opener<R>>(
     let Cluster {
         rt,
         alloc,
-        plan,
+        config,
         shared,
         stop,
         returns,
@@ -133,12 +132,12 @@ fn work_anew<'a, K: Naming, J: Series, R: Wait + Clock, G: Gate, O: Opener<R>>(
         ..
     } = *cluster;
     let barrier = Barrier::new(returns, links.n());
-    let mut worker = Worker::new(plan, shared, links, barrier, kills, alloc, observers);
+    let mut worker = Worker::new(config, shared, links, barrier, kills, alloc, observers);
     worker.arrive(node.core().round());
     take_turns(
         rt,
         alloc,
-        plan.turns,
+        config.turns,
         stop,
         worker,
         WorkerState::Up(node),
@@ -157,7 +156,7 @@ fn work_on<'a, K: Naming, J: Series, R: Wait + Clock, G: Gate, O: Opener<R>>(
     requires clean { K.OverClean → AreAlwaysClean O.Store.is_clean }
     ensures end { let l = job.entry.links in
         IfOk result (λ f. IsEndOf O.Store.is_clean (program_of image.entry.now) l.lines l.own l.n f) }
-    ensures own { IsOwnEnd cluster.now.plan.now job.entry.links.own result }
+    ensures own { IsOwnEnd cluster.now.config.now job.entry.links.own result }
 {
     let Job {
         links,
@@ -169,17 +168,17 @@ fn work_on<'a, K: Naming, J: Series, R: Wait + Clock, G: Gate, O: Opener<R>>(
     let Cluster {
         rt,
         alloc,
-        plan,
+        config,
         stop,
         ..
     } = *cluster;
-    pass_gate(cluster.gate, plan.gate_turns, pid)?;
-    let Ok(kills) = kills_of(alloc, &plan.kills, pid) else {
+    pass_gate(cluster.gate, config.gate_turns, pid)?;
+    let Ok(kills) = kills_of(alloc, &config.kills, pid) else {
         return Err(RunFault::Memory);
     };
     let barrier = Barrier::new(cluster.returns, n);
     let mut worker = Worker::new(
-        plan,
+        config,
         cluster.shared,
         links,
         barrier,
@@ -209,7 +208,7 @@ fn work<'a, K: Naming, J: Series, R: Wait + Clock, G: Gate, O: Opener<R>>(
     requires clean { K.OverClean → AreAlwaysClean O.Store.is_clean }
     ensures end { let l = job.entry.links in
         IfOk result (λ f. IsEndOf O.Store.is_clean (program_of image.entry.now) l.lines l.own l.n f) }
-    ensures own { IsOwnEnd cluster.now.plan.now job.entry.links.own result }
+    ensures own { IsOwnEnd cluster.now.config.now job.entry.links.own result }
 {
     if cluster.opener.resumes() {
         work_on(cluster, image, job)
@@ -229,7 +228,7 @@ pub fn work_or_stop<'a, K: Naming, J: Series, R: Wait + Clock, G: Gate, O: Opene
     requires clean { K.OverClean → AreAlwaysClean O.Store.is_clean }
     ensures end { let l = job.entry.links in
         IfOk result (λ f. IsEndOf O.Store.is_clean (program_of image.entry.now) l.lines l.own l.n f) }
-    ensures own { IsOwnEnd cluster.now.plan.now job.entry.links.own result }
+    ensures own { IsOwnEnd cluster.now.config.now job.entry.links.own result }
 {
     let result = work(cluster, image, job);
     if result.is_err() {

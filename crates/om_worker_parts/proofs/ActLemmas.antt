@@ -17,6 +17,7 @@ use Rattle.om_member.specs.Told.{AreTold, IsToldUpTo}
 use Rattle.om_member.proofs.KeepLemmas.{keeps_then}
 use Rattle.om_worker_parts.specs.Acts.{HasHandedOver}
 use Rattle.om_node.specs.Nodes.{AreAlwaysClean, Member, TakesFrom}
+use Rattle.om_worker_parts.specs.Places.{IsProcessOf}
 
 -- what holds, holds where the result is well
 pub on_any : {A E P : Type 0} (r : Result A E) → P → OnOk r P
@@ -56,6 +57,12 @@ asked_where asked has P is_asked found = subst (λ (b : Bool). IsTrue b ↔ P) (
 pub same_where_none : {A : Type 0} (asked : Option A) (a b : BoardState) → IfNone asked (a ≡ b) → IfNone asked (a.manager ≡ b.manager)
 same_where_none None a b same = ap (λ (x : BoardState). x.manager) same
 same_where_none (Some x) a b same = tt
+
+-- the same member, by the same number
+pub still_process : {S : Type 0} (is_clean : S → Bool) (over_clean : Type 0) (programs : List Program) (n p q : ℕ) (old new : Member) → new ≡ old → q ≡ p
+    → IsProcessOf is_clean over_clean programs n p old → IsProcessOf is_clean over_clean programs n q new
+still_process is_clean over_clean programs n p q old new same number is =
+    subst (λ (m : Member). IsProcessOf is_clean over_clean programs n q m) (sym same) (subst (λ (k : ℕ). IsProcessOf is_clean over_clean programs n k old) (sym number) is)
 
 -- what the program of a member makes may be handed in where its cluster names that program
 pub takes_named : {S : Type 0} (programs : List Program) (n : ℕ) (over_clean : Type 0) (is_clean : S → Bool) (m : Member) → slice_get programs m.own ≡ Some m.program → m.n ≡ n

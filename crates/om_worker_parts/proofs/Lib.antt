@@ -1,2 +1,3 @@
+mod LinkLemmas
 pub mod WireLemmas
 pub mod ActLemmas

@@ -1,4 +1,5 @@
 pub mod Acts
+pub mod Links
 pub mod Network
 pub mod Places
 pub mod Sights

@@ -1,10 +1,18 @@
 -- Whose place it is.
-use Rattle.std.specs.Prelude.{◌≡◌, false, ◌-◌, not}
-use Rattle.om_node.specs.Nodes.{Member, NodeState}
+use Rattle.std.specs.Prelude.{◌≡◌, ℕ, Bool, List, Some, false, slice_get}
+use Rattle.om_process.specs.Process.{Program}
+use Rattle.om_node.specs.Nodes.{AreAlwaysClean, Member, NodeState}
 use Rattle.om_worker_parts.specs.declared.worker_state.WorkerState.{WorkerState}
 use Rattle.om_worker_parts.specs.declared.worker_state.WorkerState.TheVariants.{Up, MustJoin, Joined, Failed, Down, AllQuiet}
 use Rattle.om_worker_parts.specs.declared.worker_state.TurnOutcome.{TurnOutcome}
 use Rattle.om_worker_parts.specs.declared.worker_state.TurnOutcome.TheVariants as steps
+
+-- The member is the one of this number among n processes that run these programs, and over clean stores its store is clean.
+pub record IsProcessOf {S : Type 0} (is_clean : S → Bool) (over_clean : Type 0) (programs : List Program) (n own : ℕ) (member : Member) : Type 0 where
+  pub own_is : member.own ≡ own
+  pub program : slice_get programs member.own ≡ Some member.program
+  pub size : member.n ≡ n
+  pub clean : over_clean → AreAlwaysClean is_clean
 
 -- the member whose place it is
 abbrev pub member_of : {J S : Type 0} → WorkerState J S → Member

@@ -1,15 +1,15 @@
 //! What a worker has to do with the manager.
 
-ghost use Rattle.std.specs.Prelude.{◌≡◌, ◌≢◌, ◌<◌, ◌↔◌, ◌⊎◌, [], Any, IfNone, IfOk, IfSome, IsTrue, OnOk, Some, false, is_some, length, slice_get};
+ghost use Rattle.std.specs.Prelude.{◌≡◌, ◌≢◌, ◌<◌, ◌↔◌, ◌⊎◌, [], Any, IfNone, IfOk, IfSome, IsTrue, OnOk, false, is_some, length};
 ghost use mathlib.Core.List.{IsPrefix};
 ghost use Rattle.om_board.specs.Boards.{IsBoard};
 ghost use Rattle.om_board.specs.Fronts.{EndsWith};
 ghost use Rattle.om_member.specs.Handed.{outputs_from};
 ghost use Rattle.om_take_up.specs.TakenUp.{HasTakenUp};
-ghost use Rattle.om_node.specs.Nodes.{AreAlwaysClean};
 ghost use Rattle.om_report.specs.Harvests.{AreAllOf};
 ghost use Rattle.om_worker_parts.specs.Acts.{AreLimits, HasDeclared, HasHandedOver, HasHeard, HasJoined, HasMet, HasOffered, HasPruned, HasRefused, HasReleasedAnother, HasWaited, HasWithdrawn, IsStanding};
 ghost use Rattle.om_report.specs.Locks.{UnderLock};
+ghost use Rattle.om_worker_parts.specs.Places.{IsProcessOf};
 
 use crate::locked_board::LockedBoard;
 use om_board::{Board, Front, Naming, Pass, Shared};
@@ -152,10 +152,7 @@ impl<'a, K: Naming> ManagerLink<'a, K> {
         locked: &mut LockedBoard<'_, K, R>,
         node: &mut Node<'_, J, S>,
     ) -> Result<(), WorkerFault>
-        requires own { node.old.member.own ≡ self.old.pid }
-        requires program { slice_get K.programs node.old.member.own ≡ Some node.old.member.program }
-        requires size { node.old.member.n ≡ K.cell.n }
-        requires clean { K.OverClean → AreAlwaysClean S.is_clean }
+        requires { IsProcessOf S.is_clean K.OverClean K.programs K.cell.n self.old.pid node.old.member }
         ensures pid { self.new.pid ≡ self.old.pid }
         ensures round { self.new.round ≡ self.old.round }
         ensures member { node.new.member ≡ node.old.member }
@@ -220,10 +217,7 @@ impl<'a, K: Naming> ManagerLink<'a, K> {
         has_checkpoint: bool,
         diary: &mut Diary<'_>,
     ) -> Result<(ManagerPhase, Option<Limits>), WorkerFault>
-        requires own { node.old.member.own ≡ self.old.pid }
-        requires program { slice_get K.programs node.old.member.own ≡ Some node.old.member.program }
-        requires size { node.old.member.n ≡ K.cell.n }
-        requires clean { K.OverClean → AreAlwaysClean S.is_clean }
+        requires process { IsProcessOf S.is_clean K.OverClean K.programs K.cell.n self.old.pid node.old.member }
         requires checkpoint { IsTrue has_checkpoint ↔ Any (λ row. IsTrue row.ckpt) node.old.core.pending }
         ensures pid { self.new.pid ≡ self.old.pid }
         ensures round { self.new.round ≡ self.old.round }
@@ -255,10 +249,7 @@ impl<'a, K: Naming> ManagerLink<'a, K> {
         is_patient: bool,
         diary: &mut Diary<'_>,
     ) -> Result<(ManagerPhase, Option<Limits>), WorkerFault>
-        requires own { node.old.member.own ≡ self.old.pid }
-        requires program { slice_get K.programs node.old.member.own ≡ Some node.old.member.program }
-        requires size { node.old.member.n ≡ K.cell.n }
-        requires clean { K.OverClean → AreAlwaysClean S.is_clean }
+        requires { IsProcessOf S.is_clean K.OverClean K.programs K.cell.n self.old.pid node.old.member }
         ensures pid { self.new.pid ≡ self.old.pid }
         ensures round { self.new.round ≡ self.old.round }
         ensures member { node.new.member ≡ node.old.member }
@@ -286,10 +277,7 @@ impl<'a, K: Naming> ManagerLink<'a, K> {
         diary: &mut Diary<'_>,
         pass: Pass<K>,
     ) -> Result<(bool, Pass<K>), WorkerFault>
-        requires own { node.old.member.own ≡ self.old.pid }
-        requires program { slice_get K.programs node.old.member.own ≡ Some node.old.member.program }
-        requires size { node.old.member.n ≡ K.cell.n }
-        requires clean { K.OverClean → AreAlwaysClean S.is_clean }
+        requires { IsProcessOf S.is_clean K.OverClean K.programs K.cell.n self.old.pid node.old.member }
         ensures pid { self.new.pid ≡ self.old.pid }
         ensures round { self.new.round ≡ self.old.round }
         ensures member { node.new.member ≡ node.old.member }
@@ -319,10 +307,7 @@ impl<'a, K: Naming> ManagerLink<'a, K> {
         diary: &mut Diary<'_>,
         pass: Pass<K>,
     ) -> Result<(bool, Pass<K>), WorkerFault>
-        requires own { node.old.member.own ≡ self.old.pid }
-        requires program { slice_get K.programs node.old.member.own ≡ Some node.old.member.program }
-        requires size { node.old.member.n ≡ K.cell.n }
-        requires clean { K.OverClean → AreAlwaysClean S.is_clean }
+        requires { IsProcessOf S.is_clean K.OverClean K.programs K.cell.n self.old.pid node.old.member }
         ensures pid { self.new.pid ≡ self.old.pid }
         ensures round { self.new.round ≡ self.old.round }
         ensures member { node.new.member ≡ node.old.member }

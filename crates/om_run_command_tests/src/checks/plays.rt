@@ -241,18 +241,22 @@ end p3 ended 0
 fn programs_of(rt: &impl Abort, alloc: Global, text: &str) -> Programs {
     let mut programs = Programs::new(alloc);
     for line in text.lines() {
-        let mut words = Vec::new(alloc);
-        for word in line.split_whitespace() {
-            words.push(word.as_bytes()).expect(rt, "memory");
-        }
-        let added = match words.as_slice() {
-            [b"program", words @ ..] => programs.add_program(alloc, Ext::I, words),
-            [b"proc", words @ ..] => programs.add_process(alloc, words),
-            _ => Ok(()),
-        };
-        added.expect(rt, "a line of a program or a process");
+        add_line(rt, alloc, &mut programs, line);
     }
     programs
+}
+
+fn add_line(rt: &impl Abort, alloc: Global, programs: &mut Programs, line: &str) {
+    let mut words = Vec::new(alloc);
+    for word in line.split_whitespace() {
+        words.push(word.as_bytes()).expect(rt, "memory");
+    }
+    let added = match words.as_slice() {
+        [b"program", words @ ..] => programs.add_program(alloc, Ext::I, words),
+        [b"proc", words @ ..] => programs.add_process(alloc, words),
+        _ => Ok(()),
+    };
+    added.expect(rt, "a line of a program or a process");
 }
 
 // The report of the run in which process 0 receives from 1 and then from 2.

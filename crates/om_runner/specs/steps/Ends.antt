@@ -32,7 +32,7 @@ AreEndsOf is_clean images lines n results = (i : ℕ) (image : Image) (result : 
 
 -- what is promised is for this run, this image, these inboxes, this process, and so many
 pub record IsPromised {S : Type 0} (config : Config) (image : Image) (lines : Lines) (own n : ℕ) (promise : EndOf S) : Type 0 where
-  pub plan_is : promise.plan.now ≡ config
+  pub plan_is : promise.config.now ≡ config
   pub image_is : promise.image.now ≡ image
   pub lines_are : promise.inboxes.now ≡ lines
   pub own_is : promise.own ≡ own

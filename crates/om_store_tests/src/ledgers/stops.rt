@@ -145,8 +145,21 @@ fn done(
 // The files of a store that was filled without a stop.
 fn filled(rt: &impl Abort, alloc: Global) -> Option<Files<Fuse<Memory>>> {
     let (filled, files) = done(rt, alloc, (&[], &[]), ENDLESS, Task::Fill)?;
-    filled?.answer.ok()?;
-    Some(files)
+    let is_filled = is_well(&filled);
+    drop(filled);
+    if is_filled {
+        Some(files)
+    } else {
+        drop(files);
+        None
+    }
+}
+
+fn is_well(outcome: &Option<Outcome>) -> bool {
+    match outcome {
+        Some(outcome) => outcome.answer == Ok(()),
+        None => false,
+    }
 }
 
 // Returns what is taken up without a stop.
@@ -182,14 +195,21 @@ fn take_up(rt: &impl Abort, alloc: Global, calls: (u64, u64)) -> Result<Ended, S
     let Some((outcome, files)) = done(rt, alloc, (&[], &[]), calls, Task::TakeUp) else {
         return Ok(Ended::Early);
     };
-    let nothing = content_of(alloc, &mut MemLedger::new(alloc))?;
-    if found(rt, alloc, &files) != Some(nothing) {
+    let is_done = outcome.is_some();
+    drop(outcome);
+    let left = found(rt, alloc, &files);
+    drop(files);
+    if !is_nothing(alloc, &left)? {
         return Err(StoreError::Fault);
     }
-    Ok(match outcome {
-        Some(_) => Ended::Done,
-        None => Ended::Stopped,
-    })
+    Ok(if is_done { Ended::Done } else { Ended::Stopped })
+}
+
+fn is_nothing(alloc: Global, left: &Option<Held>) -> Result<bool, StoreError> {
+    let mut store = MemLedger::new(alloc);
+    let nothing = content_of(alloc, &mut store);
+    drop(store);
+    Ok(*left == Some(nothing?))
 }
 
 // One run with a stop: of a call over a store that was filled, or of the taking up of files that have nothing.

@@ -180,8 +180,21 @@ fn done(
 // The files of a store that was filled without a stop.
 fn filled(rt: &impl Abort, alloc: Global) -> Option<Files<Fuse<Memory>>> {
     let (filled, files) = done(rt, alloc, (&[], &[]), ENDLESS, Task::Fill)?;
-    filled?.answer.ok()?;
-    Some(files)
+    let is_filled = is_well(&filled);
+    drop(filled);
+    if is_filled {
+        Some(files)
+    } else {
+        drop(files);
+        None
+    }
+}
+
+fn is_well(outcome: &Option<Outcome>) -> bool {
+    match outcome {
+        Some(outcome) => outcome.answer == Ok(()),
+        None => false,
+    }
 }
 
 // Returns what the files hold, opened and adopted without a stop.

@@ -19,7 +19,7 @@ use Rattle.om_process.specs.declared.accept.Accept.{Accept}
 use Rattle.om_process.specs.declared.accept.Accept.TheVariants as accepts
 use Rattle.om_process.specs.Stores.{flushed}
 use Rattle.om_process.specs.declared.status.Status.TheVariants as statuses
-use Rattle.om_worker_parts.specs.declared.manager_link.ManagerPhase.TheVariants as standings
+use Rattle.om_worker_parts.specs.declared.manager_link.ManagerPhase.TheVariants as phases
 use Rattle.om_worker_parts.specs.declared.worker_state.WorkerState.{WorkerState}
 use Rattle.om_worker_parts.specs.declared.worker_state.WorkerState.TheVariants.{Up, MustJoin, Joined, Failed, Down, AllQuiet}
 use Rattle.om_worker_parts.specs.declared.idle.Pause.{Pause}
@@ -32,44 +32,44 @@ use Rattle.om_node.specs.Storing.{HasStored}
 
 -- a turn leaves the process the member that it is, with no flight under way where it does not run on, or it has ended so
 abbrev pub IsTurned : {K J S : Type 0} → (S → Bool) → Member → AfterTurn K J S → Type 0
-IsTurned is_clean m (On place pass) = (member_of place ≡ m) × IsLanded place
+IsTurned is_clean m (On state pass) = (member_of state ≡ m) × IsLanded state
 IsTurned is_clean m (Over status harvest store) =
     IsEnd status × (harvest.own ≡ m.own)
     × (IsTrue (is_clean store) → IsWholeRun m.program m.own m.n status (length harvest.outputs.items))
 
 -- what becomes of a process by a finished round: it comes back as it was in its verdict's interval, with nothing volatile, or
 -- goes on as it was; and it knows the round and the starts
-pub record HasHeeded (told : RoundOutcome) (own : ℕ) (old new : CoreState) : Type 0 where
-  pub back : told.verdict.back ≡ true → new ≡ settled own new.now told.verdict.inc told.verdict.round told.starts
-  pub on : told.verdict.back ≡ false → new ≡ resumed old told.verdict.round told.starts
+pub record HasHeeded (outcome : RoundOutcome) (own : ℕ) (old new : CoreState) : Type 0 where
+  pub back : outcome.verdict.back ≡ true → new ≡ settled own new.now outcome.verdict.inc outcome.verdict.round outcome.starts
+  pub on : outcome.verdict.back ≡ false → new ≡ resumed old outcome.verdict.round outcome.starts
 
 -- there was nothing to hand over, nor had the process ended; the manager had these many outputs of it
-pub record HasNothingToSay (handed : ℕ) (status : Status) (old : CoreState) (standing : ManagerPhase) (new : CoreState) : Type 0 where
+pub record HasNothingToSay (handed : ℕ) (status : Status) (old : CoreState) (phase : ManagerPhase) (new : CoreState) : Type 0 where
   pub runs : IsEnd status → ⊥
   pub told : old.pending ≡ []
   pub made : outputs_from old handed ≡ []
-  pub standing_is : standing ≡ standings.Closed
+  pub phase_is : phase ≡ phases.Closed
   pub same : new ≡ old
 
 -- a process that is up met the manager, with all that it had
 abbrev pub HasReported : ℕ → ℕ → ℕ → Status → CoreState → ManagerPhase → Type 0
-HasReported n p round status old standing =
+HasReported n p round status old phase =
     (ended : Bool) × (IsTrue ended ↔ IsEnd status) × (limits : Option Limits) × (core : CoreState)
-    × UnderLock n (λ before after. HasMet before p round ended old standing limits after core)
+    × UnderLock n (λ before after. HasMet before p round ended old phase limits after core)
 
 -- the manager told a process of the last finished round
 abbrev pub WasTold : ℕ → ℕ → RoundOutcome → Type 0
-WasTold n p told = UnderLock n (λ before after. HasHeard before.manager p told × (after ≡ before))
+WasTold n p outcome = UnderLock n (λ before after. HasHeard before.manager p outcome × (after ≡ before))
 
 -- a process that was in is up after a round: it goes on, or comes back where it is told to
 abbrev pub HasRisen : {J S : Type 0} → RoundOutcome → NodeState → WorkerState J S → Type 0
-HasRisen told old next = (new : NodeState) × (next ≡ Up new) × (new.member ≡ old.member) × HasHeeded told old.member.own old.core new.core
+HasRisen outcome old next = (new : NodeState) × (next ≡ Up new) × (new.member ≡ old.member) × HasHeeded outcome old.member.own old.core new.core
 
 -- a process that was down comes back after a round, with nothing volatile
 abbrev pub HasComeBack : {J S : Type 0} → RoundOutcome → Member → WorkerState J S → Type 0
-HasComeBack told m next =
+HasComeBack outcome m next =
     (new : NodeState) × (next ≡ Up new) × (new.member ≡ m)
-    × (new.core ≡ settled m.own new.core.now told.verdict.inc told.verdict.round told.starts)
+    × (new.core ≡ settled m.own new.core.now outcome.verdict.inc outcome.verdict.round outcome.starts)
 
 -- a process that was called is in, once it stored its log and handed over all; the failure of one that failed in this round
 -- is declared. One that waits for a round to be finished waits on, or it was told of it, and is up again as the round has it
@@ -79,9 +79,9 @@ IsTurnOf n round (MustJoin old) next =
     × UnderLock n (λ before after. HasJoined before.manager old.member.own (flushed old.core) after.manager new.core)
 IsTurnOf n round (Failed down_node) next =
     (next ≡ Down down_node) × UnderLock n (λ before after. HasDeclared before.manager down_node.own round after.manager)
-IsTurnOf n round (Joined old) next = (next ≡ Joined old) ⊎ ((told : RoundOutcome) × WasTold n old.member.own told × HasRisen told old next)
+IsTurnOf n round (Joined old) next = (next ≡ Joined old) ⊎ ((outcome : RoundOutcome) × WasTold n old.member.own outcome × HasRisen outcome old next)
 IsTurnOf n round (Down down_node) next =
-    (next ≡ Down down_node) ⊎ ((told : RoundOutcome) × WasTold n down_node.own told × HasComeBack told down_node next)
+    (next ≡ Down down_node) ⊎ ((outcome : RoundOutcome) × WasTold n down_node.own outcome × HasComeBack outcome down_node next)
 IsTurnOf n round (Up node) next = Unit {0}
 IsTurnOf n round (AllQuiet node) next = next ≡ AllQuiet node
 

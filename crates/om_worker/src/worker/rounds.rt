@@ -1,12 +1,11 @@
 //! How a worker's process takes part in a round: it joins, declares its failure, waits, and goes on or comes back.
 
-ghost use Rattle.std.specs.Prelude.{◌≡◌, ◌<◌, ◌+◌, false, IfOk, IfSome, None, Ok, OnOk, Some, length, slice_get, true};
+ghost use Rattle.std.specs.Prelude.{◌≡◌, ◌<◌, ◌+◌, false, IfOk, IfSome, None, Ok, OnOk, length, true};
 ghost use Rattle.om_process.specs.Stores.{flushed};
 ghost use Rattle.om_worker.specs.steps.Turning.{HasHeeded, HasComeBack, HasRisen, IsTurnOf, WasTold};
 ghost use Rattle.om_worker_parts.specs.Acts.{HasJoined};
 ghost use Rattle.om_report.specs.Locks.{UnderLock};
-ghost use Rattle.om_node.specs.Nodes.{AreAlwaysClean};
-ghost use Rattle.om_worker_parts.specs.Places.{IsLanded, member_of};
+ghost use Rattle.om_worker_parts.specs.Places.{IsProcessOf, IsLanded, member_of};
 
 use super::Worker;
 use om_board::{Naming, Pass};
@@ -58,10 +57,7 @@ impl<'a, K: Naming> Worker<'a, K> {
         node: Node<'a, J, S>,
         pass: Pass<K>,
     ) -> Result<(WorkerState<'a, J, S>, Pass<K>), WorkerFault>
-        requires own { node.member.own ≡ self.old.links.own }
-        requires program { slice_get K.programs node.member.own ≡ Some node.member.program }
-        requires size { node.member.n ≡ K.cell.n }
-        requires clean { K.OverClean → AreAlwaysClean S.is_clean }
+        requires process { IsProcessOf S.is_clean K.OverClean K.programs K.cell.n self.old.links.own node.member }
         requires landed { node.away ≡ false }
         ensures same { self.new.links ≡ self.old.links }
         ensures place { IfOk result (λ r. member_of r.0 ≡ node.entry.member) }
@@ -86,10 +82,7 @@ impl<'a, K: Naming> Worker<'a, K> {
         node: &mut Node<'a, J, S>,
         pass: Pass<K>,
     ) -> Result<Pass<K>, WorkerFault>
-        requires own { node.old.member.own ≡ self.old.links.own }
-        requires program { slice_get K.programs node.old.member.own ≡ Some node.old.member.program }
-        requires size { node.old.member.n ≡ K.cell.n }
-        requires clean { K.OverClean → AreAlwaysClean S.is_clean }
+        requires process { IsProcessOf S.is_clean K.OverClean K.programs K.cell.n self.old.links.own node.old.member }
         requires landed { node.old.away ≡ false }
         ensures same { self.new.links ≡ self.old.links }
         ensures member { node.new.member ≡ node.old.member }
@@ -147,18 +140,18 @@ impl<'a, K: Naming> Worker<'a, K> {
         ensures landed { IfOk result (λ r. IsLanded r.0) }
         ensures turned { IfOk result (λ r. IsTurnOf K.cell.n self.old.manager_link.round (WorkerState.Joined node.entry) r.0) }
     {
-        let (told, pass) = match self.listen(rt, alloc, pass) {
+        let (round_outcome, pass) = match self.listen(rt, alloc, pass) {
             Ok(heard) => heard,
             Err(worker_fault) => {
                 drop(node);
                 return Err(worker_fault);
             }
         };
-        match told {
+        match round_outcome {
             None => Ok((WorkerState::Joined(node), pass)),
-            Some(told) => {
-                let place = self.rise(rt, alloc, node, &told)?;
-                Ok((place, pass))
+            Some(round_outcome) => {
+                let state = self.rise(rt, alloc, node, &round_outcome)?;
+                Ok((state, pass))
             }
         }
     }
@@ -170,19 +163,19 @@ impl<'a, K: Naming> Worker<'a, K> {
         rt: &R,
         alloc: Global,
         node: Node<'a, J, S>,
-        told: &RoundOutcome,
+        round_outcome: &RoundOutcome,
     ) -> Result<WorkerState<'a, J, S>, WorkerFault>
-        requires starts { length told.now.starts ≡ node.member.n }
+        requires starts { length round_outcome.now.starts ≡ node.member.n }
         requires landed { node.away ≡ false }
         ensures same { self.new.links ≡ self.old.links }
-        ensures risen { IfOk result (λ place. HasRisen told.now node.entry place) }
+        ensures risen { IfOk result (λ state. HasRisen round_outcome.now node.entry state) }
     {
-        let is_back = told.verdict.back;
+        let is_back = round_outcome.verdict.back;
         if is_back {
-            self.past.cut(told.verdict.r);
+            self.past.cut(round_outcome.verdict.r);
         }
-        let node = after_round(alloc, node, told)?;
-        self.up_again(rt, node, &told.verdict, is_back)
+        let node = after_round(alloc, node, round_outcome)?;
+        self.up_again(rt, node, &round_outcome.verdict, is_back)
     }
 
     // Tells that the process is up again. It stands as the round left it, and so does its store.
@@ -196,7 +189,7 @@ impl<'a, K: Naming> Worker<'a, K> {
     ) -> Result<WorkerState<'a, J, S>, WorkerFault>
         requires { node.core.round ≡ verdict.now.round }
         ensures same { self.new.links ≡ self.old.links }
-        ensures place { IfOk result (λ place. place ≡ WorkerState.Up node.entry) }
+        ensures place { IfOk result (λ state. state ≡ WorkerState.Up node.entry) }
     {
         self.links.tell_all_received(node.core());
         if is_back {
@@ -230,12 +223,12 @@ impl<'a, K: Naming> Worker<'a, K> {
         ensures landed { IfOk result (λ r. IsLanded r.0) }
         ensures turned { IfOk result (λ r. IsTurnOf K.cell.n self.old.manager_link.round (WorkerState.Down down_node.entry) r.0) }
     {
-        let (told, pass) = self.listen(rt, alloc, pass)?;
-        match told {
+        let (round_outcome, pass) = self.listen(rt, alloc, pass)?;
+        match round_outcome {
             None => Ok((WorkerState::Down(down_node), pass)),
-            Some(told) => {
-                let place = self.come_back(rt, alloc, down_node, &told)?;
-                Ok((place, pass))
+            Some(round_outcome) => {
+                let state = self.come_back(rt, alloc, down_node, &round_outcome)?;
+                Ok((state, pass))
             }
         }
     }
@@ -247,15 +240,15 @@ impl<'a, K: Naming> Worker<'a, K> {
         rt: &R,
         alloc: Global,
         down_node: DownNode<'a, J, S>,
-        told: &RoundOutcome,
+        round_outcome: &RoundOutcome,
     ) -> Result<WorkerState<'a, J, S>, WorkerFault>
-        requires { length told.now.starts ≡ down_node.n }
+        requires { length round_outcome.now.starts ≡ down_node.n }
         ensures same { self.new.links ≡ self.old.links }
-        ensures back { IfOk result (λ place. HasComeBack told.now down_node.entry place) }
+        ensures back { IfOk result (λ state. HasComeBack round_outcome.now down_node.entry state) }
     {
-        self.past.cut(told.verdict.r);
-        let node = down_node.come_back(alloc, &told.starts, &told.verdict)?;
-        self.up_again(rt, node, &told.verdict, true)
+        self.past.cut(round_outcome.verdict.r);
+        let node = down_node.come_back(alloc, &round_outcome.starts, &round_outcome.verdict)?;
+        self.up_again(rt, node, &round_outcome.verdict, true)
     }
 
     // Returns what the manager says of a round that is finished and that the process does not know yet, if there is one. After
@@ -268,7 +261,7 @@ impl<'a, K: Naming> Worker<'a, K> {
     ) -> Result<(Option<RoundOutcome>, Pass<K>), WorkerFault>
         ensures same { self.new.links ≡ self.old.links }
         ensures starts { IfOk result (λ r. IfSome r.0 (λ round_outcome. length round_outcome.starts ≡ K.cell.n)) }
-        ensures heard { IfOk result (λ r. IfSome r.0 (λ told. WasTold K.cell.n self.old.manager_link.pid told)) }
+        ensures heard { IfOk result (λ r. IfSome r.0 (λ round_outcome. WasTold K.cell.n self.old.manager_link.pid round_outcome)) }
     {
         let mut pass = pass;
         let front = self.manager_link.read(rt, &mut pass);

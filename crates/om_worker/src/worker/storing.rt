@@ -48,9 +48,9 @@ impl<'a, K: Naming> Worker<'a, K> {
         ensures member { node.new.member ≡ node.old.member }
         ensures now { node.new.core.now ≡ node.old.core.now }
         ensures killed { Contains self.old.kills.items x → result ≡ Ok TurnOutcome.Failed }
-        ensures spared { (Contains self.old.kills.items x → ⊥) → IfOk result (λ step. step ≡ TurnOutcome.Up) }
+        ensures spared { (Contains self.old.kills.items x → ⊥) → IfOk result (λ turn_outcome. turn_outcome ≡ TurnOutcome.Up) }
         ensures stored { let w = self.old in (Contains w.kills.items x → ⊥) → node.old.slow ≡ false
-            → OnOk result (HasStoredBy x w.plan.now.flush w.plan.now.checkpoint (is_some w.kept) node.old.core node.new.core) }
+            → OnOk result (HasStoredBy x w.config.now.flush w.config.now.checkpoint (is_some w.kept) node.old.core node.new.core) }
     {
         if self.is_to_fail(x) {
             return Ok(TurnOutcome::Failed);
@@ -74,10 +74,10 @@ impl<'a, K: Naming> Worker<'a, K> {
         ensures member { node.new.member ≡ node.old.member }
         ensures now { node.new.core.now ≡ node.old.core.now }
         ensures stored { let w = self.old in OnOk result
-            (HasStoredBy x w.plan.now.flush w.plan.now.checkpoint (is_some w.kept) node.old.core node.new.core) }
+            (HasStoredBy x w.config.now.flush w.config.now.checkpoint (is_some w.kept) node.old.core node.new.core) }
     {
-        let is_flush_due = is_multiple(x, self.plan.flush);
-        let is_checkpoint_due = is_multiple(x, self.plan.checkpoint);
+        let is_flush_due = is_multiple(x, self.config.flush);
+        let is_checkpoint_due = is_multiple(x, self.config.checkpoint);
         if is_log_due(is_flush_due, is_checkpoint_due, self.kept.is_some()) {
             self.store(alloc, node, ALL_RECEIPTS, is_checkpoint_due)?;
             return Ok(());
@@ -92,7 +92,7 @@ impl<'a, K: Naming> Worker<'a, K> {
     // Returns whether the process is to fail in this interval, which is then done with.
     fn is_to_fail(&mut self, x: u32) -> bool
         ensures same { self.new.links ≡ self.old.links }
-        ensures plan { self.new.plan ≡ self.old.plan }
+        ensures config { self.new.config ≡ self.old.config }
         ensures kept { self.new.kept ≡ self.old.kept }
         ensures named { IsTrue result ↔ Contains self.old.kills.items x }
     {
@@ -201,7 +201,7 @@ impl<'a, K: Naming> Worker<'a, K> {
     }
 
     // Begins a flight where the store is slow, none is under way, what landed is noted, and so many receipts are in the log, or came
-    // since the last checkpoint, as the plan says.
+    // since the last checkpoint, as the configuration says.
     pub(super) fn launch<J: Series, S: Ledger, R: Wait>(
         &mut self,
         rt: &R,
@@ -216,12 +216,12 @@ impl<'a, K: Naming> Worker<'a, K> {
             return Ok(());
         }
         let x = node.core().interval();
-        let is_flush_due = is_reached(x, self.handed.receipts, self.plan.flush);
-        let is_checkpoint_due = is_reached(x, self.handed.checkpoint, self.plan.checkpoint);
+        let is_flush_due = is_reached(x, self.handed.receipts, self.config.flush);
+        let is_checkpoint_due = is_reached(x, self.handed.checkpoint, self.config.checkpoint);
         if is_flush_due || is_checkpoint_due {
             // A checkpoint takes the log with it: so no commit is for one alone. Where a run may take the store up, the senders of
             // the receipts before it are read from their records, whether they are flushed or not.
-            let is_log_due = self.plan.flush != 0 || self.kept.is_some();
+            let is_log_due = self.config.flush != 0 || self.kept.is_some();
             self.send_off(rt, alloc, node, is_log_due, is_checkpoint_due)?;
         }
         Ok(())

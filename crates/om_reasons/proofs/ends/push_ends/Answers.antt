@@ -13,10 +13,10 @@ loop-p-preserved c =
     let sights = c.args.sights.now in
     let p = c.loop-p.p in
     let before = string_bytes c.loop-p.text in
-    let name = c.name_in.result.now in
+    let name = c.name_of.result.now in
     let seen = slice_index_or sights p unseen in
     text_grows (λ k. doing_line (name_at cluster k) (slice_index_or sights k unseen).doing) p
     (string_bytes c.args.text.now) before (string_bytes c.push_end.new.text) c.loop-p.invariant
     (c.in_ok-push_end.ensures
     ∙ ap {A = Sight} (λ s. before ++ doing_line name s.doing) (get_or_default sights p c.index-sights-p.result unseen c.loop-p-test.true)
-    ∙ ap (λ n. before ++ doing_line n seen.doing) c.name_in.ensures)
+    ∙ ap (λ n. before ++ doing_line n seen.doing) c.name_of.ensures)

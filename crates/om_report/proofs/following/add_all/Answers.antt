@@ -1,53 +1,41 @@
-use Rattle.std.proofs.Common.{◌≡◌, ◌∙◌, ◌<◌, Some, ap, length, map, refl, rules}
+use Rattle.std.proofs.Common.{◌≡◌, ◌∙◌, Some, ap, arith, length, map, refl, rules, subst, sym}
 use Rattle.std.proofs.lemmas.Option.{slice_get_read}
-use Rattle.std.specs.Prelude.{slice_get, slice_index}
+use Rattle.std.specs.Prelude.{slice_get}
 use Rattle.om_manager.specs.Outputs.{held_of}
-use Rattle.om_manager.specs.State.{process_count, released_by}
-use Rattle.om_report.proofs.FollowLemmas.{kept_where, made_where, same_where}
-use Rattle.om_report.proofs.ReleasedLemmas.{released_at, released_made}
+use Rattle.om_manager.specs.State.{released_by}
+use Rattle.om_report.proofs.FollowLemmas.{lanes_more, lanes_none, not_reached}
+use Rattle.om_report.specs.steps.Lanes.{IsMore}
 use Rattle.om_report.proofs.following.add_all.Goals as goal
 
-pub returns-in_err-add_new-clause-kept : goal.returns-in_err-add_new-clause-kept
-returns-in_err-add_new-clause-kept c = λ are.
-    let m = c.args.manager.now in
-    let lanes = c.loop-p.lanes.items in
-    let p = c.loop-p.p in
-    let old = c.index_mut.result.now in
-    let at : slice_get lanes p ≡ Some old = slice_get_read lanes (length lanes) p old refl (search rules) c.index_mut.ensures.value in
-    let held : map held_of c.released.result.now ≡ released_by m p = c.released.ensures.outputs ∙ ap (released_by m) c.at.ensures in
-    kept_where m.recovery lanes p old c.add_new.new.lane at
-    (λ was. c.add_new.ensures.kept (slice_index m.recovery p) was (released_at m p c.released.result.now held c.released.ensures.numbered))
-    (c.loop-p.invariant.kept are)
+pub loop-p-init : goal.loop-p-init
+loop-p-init c = record { many = refl; more = lanes_none (released_by c.args.manager.now) c.args.lanes.now.items; later = λ q le. refl }
 
-pub returns-in_err-add_new-clause-made : goal.returns-in_err-add_new-clause-made
-returns-in_err-add_new-clause-made c = λ programs n holds are.
+pub returns-in_err-add_new-clause-more : goal.returns-in_err-add_new-clause-more
+returns-in_err-add_new-clause-more c =
     let m = c.args.manager.now in
+    let first = c.args.lanes.now.items in
     let lanes = c.loop-p.lanes.items in
     let p = c.loop-p.p in
     let old = c.index_mut.result.now in
+    let new = c.add_new.new.lane in
     let at : slice_get lanes p ≡ Some old = slice_get_read lanes (length lanes) p old refl (search rules) c.index_mut.ensures.value in
+    let begun : slice_get first p ≡ Some old = sym (c.loop-p.invariant.later p (omega arith)) ∙ at in
     let held : map held_of c.released.result.now ≡ released_by m p = c.released.ensures.outputs ∙ ap (released_by m) c.at.ensures in
-    let within : p < process_count m = search rules in
-    made_where programs n lanes p old c.add_new.new.lane at
-    (λ was. c.add_new.ensures.made programs n p was (released_made programs n m p c.released.result.now c.recovery.ensures.sound within held c.released.ensures.numbered holds))
-    (c.loop-p.invariant.made programs n holds are)
+    lanes_more (released_by m) first lanes p old new at begun (subst (λ hs. IsMore hs old new) held c.add_new.ensures.more) c.loop-p.invariant.more
 
 pub loop-p-preserved : goal.loop-p-preserved
 loop-p-preserved c =
     let m = c.args.manager.now in
+    let first = c.args.lanes.now.items in
     let lanes = c.loop-p.lanes.items in
     let p = c.loop-p.p in
     let old = c.index_mut.result.now in
+    let new = c.add_new.new.lane in
     let at : slice_get lanes p ≡ Some old = slice_get_read lanes (length lanes) p old refl (search rules) c.index_mut.ensures.value in
+    let begun : slice_get first p ≡ Some old = sym (c.loop-p.invariant.later p (omega arith)) ∙ at in
     let held : map held_of c.released.result.now ≡ released_by m p = c.released.ensures.outputs ∙ ap (released_by m) c.at.ensures in
-    let within : p < process_count m = search rules in
     record {
       many = search rules;
-      same = λ q. same_where lanes p old c.add_new.new.lane at c.add_new.ensures.same q ∙ c.loop-p.invariant.same q;
-      kept = λ are. kept_where m.recovery lanes p old c.add_new.new.lane at
-          (λ was. c.add_new.ensures.kept (slice_index m.recovery p) was (released_at m p c.released.result.now held c.released.ensures.numbered))
-          (c.loop-p.invariant.kept are);
-      made = λ programs n holds are. made_where programs n lanes p old c.add_new.new.lane at
-          (λ was. c.add_new.ensures.made programs n p was (released_made programs n m p c.released.result.now c.recovery.ensures.sound within held c.released.ensures.numbered holds))
-          (c.loop-p.invariant.made programs n holds are);
+      more = lanes_more (released_by m) first lanes p old new at begun (subst (λ hs. IsMore hs old new) held c.add_new.ensures.more) c.loop-p.invariant.more;
+      later = not_reached first lanes p new c.loop-p.invariant.later;
     }

@@ -1,55 +1,64 @@
-use Rattle.std.proofs.Common.{◌≡◌, ◌≤◌, Some, length, refl, rules, subst, sym, ◌∙◌, arith}
-use Rattle.std.proofs.lemmas.Option.{slice_get_read}
-use Rattle.std.specs.Prelude.{slice_get, slice_index}
-use Rattle.om_report.specs.Released.{AreMade, AreReleased}
-use Rattle.om_report.proofs.FollowLemmas.{fewer_all, fewer_next, kept_where, made_where, same_where}
+use Rattle.std.proofs.Common.{◌≡◌, ◌≤◌, ◌∙◌, Some, ap, arith, length, map, refl, rules, subst, sym}
+use Rattle.std.proofs.lemmas.Option.{slice_get_read, slice_get_within}
+use Rattle.std.specs.Prelude.{slice_get}
+use Rattle.om_manager.specs.Outputs.{AreNumbered, held_of}
+use Rattle.om_report.proofs.FollowLemmas.{copied_next, lanes_more, lanes_none, not_reached}
+use Rattle.om_report.specs.steps.Lanes.{IsMore, held_at, held_in}
 use Rattle.om_report.proofs.following.add_brought.Goals as goal
 
-pub returns-in_err-add_new-clause-kept : goal.returns-in_err-add_new-clause-kept
-returns-in_err-add_new-clause-kept c = λ vec released are.
-    let lanes = c.loop-p.lanes.items in
-    let p = c.loop-p.p in
-    let old = c.index_mut.result.now in
-    let from = c.index-brought-p.result in
-    let at : slice_get lanes p ≡ Some old = slice_get_read lanes (length lanes) p old refl (search rules) c.index_mut.ensures.value in
-    let there : slice_get c.args.brought.now p ≡ Some from = slice_get_read c.args.brought.now (length c.args.brought.now) p from refl (search rules) c.index-brought-p.is in
-    kept_where vec lanes p old c.add_new.new.lane at
-    (λ was. c.add_new.ensures.kept (slice_index vec p) was (subst (AreReleased (slice_index vec p)) (sym c.deref.ensures.value) (released p from there)))
-    (c.loop-p.invariant.kept vec released are)
+pub loop-p-init : goal.loop-p-init
+loop-p-init c = record {
+  many = refl;
+  more = lanes_none (held_in c.args.brought.now) c.args.lanes.now.items;
+  later = λ q le. refl;
+  all = λ q low lane lt here there. absurd (omega arith);
+}
 
-pub returns-in_err-add_new-clause-made : goal.returns-in_err-add_new-clause-made
-returns-in_err-add_new-clause-made c = λ programs n made are.
-    let lanes = c.loop-p.lanes.items in
+pub add_new-requires : goal.add_new-requires
+add_new-requires c =
+    let brought = c.args.brought.now in
     let p = c.loop-p.p in
-    let old = c.index_mut.result.now in
     let from = c.index-brought-p.result in
-    let at : slice_get lanes p ≡ Some old = slice_get_read lanes (length lanes) p old refl (search rules) c.index_mut.ensures.value in
-    let there : slice_get c.args.brought.now p ≡ Some from = slice_get_read c.args.brought.now (length c.args.brought.now) p from refl (search rules) c.index-brought-p.is in
-    made_where programs n lanes p old c.add_new.new.lane at
-    (λ was. c.add_new.ensures.made programs n p was (subst (AreMade programs n p) (sym c.deref.ensures.value) (made p from there)))
-    (c.loop-p.invariant.made programs n made are)
+    let there : slice_get brought p ≡ Some from = slice_get_read brought (length brought) p from refl (search rules) c.index-brought-p.is in
+    subst AreNumbered (sym c.deref.ensures.value) (c.requires.numbered p from there)
 
-pub loop-p-preserved : goal.loop-p-preserved
-loop-p-preserved c =
+pub returns-in_err-add_new-clause-more : goal.returns-in_err-add_new-clause-more
+returns-in_err-add_new-clause-more c =
+    let brought = c.args.brought.now in
+    let first = c.args.lanes.now.items in
     let lanes = c.loop-p.lanes.items in
     let p = c.loop-p.p in
     let old = c.index_mut.result.now in
     let new = c.add_new.new.lane in
     let from = c.index-brought-p.result in
     let at : slice_get lanes p ≡ Some old = slice_get_read lanes (length lanes) p old refl (search rules) c.index_mut.ensures.value in
-    let there : slice_get c.args.brought.now p ≡ Some from = slice_get_read c.args.brought.now (length c.args.brought.now) p from refl (search rules) c.index-brought-p.is in
-    let more : length from.items ≤ length new.outputs.items = subst (λ os. length os ≤ length new.outputs.items) c.deref.ensures.value c.in_ok-add_new.ensures.all in
+    let there : slice_get brought p ≡ Some from = slice_get_read brought (length brought) p from refl (search rules) c.index-brought-p.is in
+    let begun : slice_get first p ≡ Some old = sym (c.loop-p.invariant.later p (omega arith)) ∙ at in
+    let held : map held_of c.deref.result.now ≡ held_in brought p = ap (map held_of) c.deref.ensures.value ∙ ap held_at (sym there) in
+    lanes_more (held_in brought) first lanes p old new at begun (subst (λ hs. IsMore hs old new) held c.add_new.ensures.more) c.loop-p.invariant.more
+
+pub loop-p-preserved : goal.loop-p-preserved
+loop-p-preserved c =
+    let brought = c.args.brought.now in
+    let first = c.args.lanes.now.items in
+    let lanes = c.loop-p.lanes.items in
+    let p = c.loop-p.p in
+    let old = c.index_mut.result.now in
+    let new = c.add_new.new.lane in
+    let from = c.index-brought-p.result in
+    let at : slice_get lanes p ≡ Some old = slice_get_read lanes (length lanes) p old refl (search rules) c.index_mut.ensures.value in
+    let there : slice_get brought p ≡ Some from = slice_get_read brought (length brought) p from refl (search rules) c.index-brought-p.is in
+    let begun : slice_get first p ≡ Some old = sym (c.loop-p.invariant.later p (omega arith)) ∙ at in
+    let held : map held_of c.deref.result.now ≡ held_in brought p = ap (map held_of) c.deref.ensures.value ∙ ap held_at (sym there) in
+    let more : length from.items ≤ new.copied = subst (λ os. length os ≤ new.copied) c.deref.ensures.value c.in_ok-add_new.ensures.all in
     record {
       many = search rules;
-      same = λ q. same_where lanes p old new at c.add_new.ensures.same q ∙ c.loop-p.invariant.same q;
-      kept = λ vec released are. kept_where vec lanes p old new at
-          (λ was. c.add_new.ensures.kept (slice_index vec p) was (subst (AreReleased (slice_index vec p)) (sym c.deref.ensures.value) (released p from there)))
-          (c.loop-p.invariant.kept vec released are);
-      made = λ programs n made are. made_where programs n lanes p old new at
-          (λ was. c.add_new.ensures.made programs n p was (subst (AreMade programs n p) (sym c.deref.ensures.value) (made p from there)))
-          (c.loop-p.invariant.made programs n made are);
-      all = fewer_next c.args.brought.now lanes p from old new there at more c.loop-p.invariant.all;
+      more = lanes_more (held_in brought) first lanes p old new at begun (subst (λ hs. IsMore hs old new) held c.add_new.ensures.more) c.loop-p.invariant.more;
+      later = not_reached first lanes p new c.loop-p.invariant.later;
+      all = copied_next brought lanes p from old new there at more c.loop-p.invariant.all;
     }
 
 pub returns-clause-all : goal.returns-clause-all
-returns-clause-all c = fewer_all c.args.brought.now c.loop-p.lanes.items (λ q low lane lt. c.loop-p.invariant.all q low lane (omega arith))
+returns-clause-all c = λ q low lane here there.
+    let within = slice_get_within c.args.brought.now q low here in
+    c.loop-p.invariant.all q low lane (omega arith) here there

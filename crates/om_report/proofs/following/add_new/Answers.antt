@@ -1,40 +1,32 @@
-use Rattle.std.proofs.Common.{◌≡◌, ◌≤◌, ◌∷◌, [], Some, ap, length, refl, rules, subst, sym, ◌∙◌, arith}
-use Rattle.std.proofs.lemmas.Option.{slice_get_read}
+use Rattle.std.proofs.Common.{◌≡◌, ◌+◌, ◌++◌, ◌∷◌, [], Some, ap, length, map, refl, rules, sym, ◌∙◌}
+use Rattle.std.proofs.lemmas.Option.{get_or_from_slice_get, slice_get_read, slice_get_within}
 use Rattle.std.specs.Prelude.{slice_get}
-use Rattle.om_manager.specs.Outputs.{HeldOutput, held_of}
-use Rattle.om_board.specs.Made.{IsMade}
-use Rattle.om_report.specs.Released.{AreMade, AreReleased}
-use Rattle.om_report.proofs.FollowLemmas.{made_next, released_next, same_told}
+use Rattle.om_board.proofs.ListLemmas.{map_get}
+use Rattle.om_manager.specs.Outputs.{held_of}
+use Rattle.om_manager.specs.declared.output_log.Output.{Output}
+use Rattle.om_report.proofs.FollowLemmas.{more_next, more_none, more_same}
 use Rattle.om_report.proofs.following.add_new.Goals as goal
 
-pub returns-in_err-push-clause-kept : goal.returns-in_err-push-clause-kept
-returns-in_err-push-clause-kept c = λ limit was all.
-    let same : c.push.new.self.items ≡ c.loop-i.lane.outputs.items = search rules in
-    subst (AreReleased limit) (sym same) (c.loop-i.invariant.kept limit was all)
+pub loop-i-init : goal.loop-i-init
+loop-i-init c = record { at = refl; more = more_none (map held_of c.args.released.now) c.args.lane.now }
 
-pub returns-in_err-push-clause-made : goal.returns-in_err-push-clause-made
-returns-in_err-push-clause-made c = λ programs n p was all.
-    let same : c.push.new.self.items ≡ c.loop-i.lane.outputs.items = search rules in
-    subst (AreMade programs n p) (sym same) (c.loop-i.invariant.made programs n p was all)
+pub returns-in_err-push_back-clause-more : goal.returns-in_err-push_back-clause-more
+returns-in_err-push_back-clause-more c =
+    more_same (map held_of c.args.released.now) c.args.lane.now c.loop-i.lane _ c.loop-i.invariant.more (search rules) refl
 
 pub loop-i-preserved : goal.loop-i-preserved
 loop-i-preserved c =
-    let was = c.loop-i.invariant in
+    let released = c.args.released.now in
+    let i = c.loop-i.i in
     let o = c.in_ok-copy_of.field-0 in
     let from = c.index-released-i.result in
-    let at : slice_get c.args.released.now c.loop-i.i ≡ Some from = slice_get_read c.args.released.now (length c.args.released.now) c.loop-i.i from refl (search rules) c.index-released-i.is in
-    let interval : o.interval ≡ from.interval = ap (λ (h : HeldOutput). h.interval) c.in_ok-copy_of.ensures.held in
-    let within : c.loop-i.lane.told ≤ length c.loop-i.lane.outputs.items = (let fits = c.loop-i.lane.within in let is = c.loop-i.lane.outputs.ok in omega arith) in
+    let at : slice_get released i ≡ Some from = slice_get_read released (length released) i from refl (search rules) c.index-released-i.is in
+    let number : from.seq ≡ i = ap (λ (x : Output). x.seq) (sym (get_or_from_slice_get released i from from at)) ∙ c.requires i from (slice_get_within released i from at) in
+    let here : i ≡ c.loop-i.lane.copied = sym c.loop-i.invariant.at in
+    let held : slice_get (map held_of released) c.loop-i.lane.copied ≡ Some (held_of o) =
+    ap (slice_get (map held_of released)) c.loop-i.invariant.at ∙ map_get held_of released i from at ∙ ap Some (sym c.in_ok-copy_of.ensures.held) in
+    let pushed : c.push_back.new.self.items ≡ c.loop-i.lane.fresh.items ++ o ∷ [] = search rules in
     record {
       at = search rules;
-      same = λ p. same_told p c.loop-i.lane.told c.loop-i.lane.outputs.items c.push.new.self.items (o ∷ []) within (search rules) ∙ was.same p;
-      kept = λ limit old all.
-          let inside = all c.loop-i.i from at in
-          subst (AreReleased limit) (search rules)
-          (released_next limit c.loop-i.lane.outputs.items o (was.kept limit old all) (c.in_ok-copy_of.ensures.seq ∙ inside.0 ∙ search rules) (subst (λ x. x ≤ limit) (sym interval) inside.1));
-      made = λ programs n p old all.
-          let one : IsMade programs n p o.seq (held_of o) =
-          subst (λ h. IsMade programs n p o.seq h) (sym c.in_ok-copy_of.ensures.held) (subst (λ k. IsMade programs n p k (held_of from)) (sym c.in_ok-copy_of.ensures.seq) (all c.loop-i.i from at))
-          in
-          subst (AreMade programs n p) (search rules) (made_next programs n p c.loop-i.lane.outputs.items o (was.made programs n p old all) one);
+      more = more_next (map held_of released) c.args.lane.now c.loop-i.lane _ o c.loop-i.invariant.more pushed (ap (λ k. k + 1) here) (c.in_ok-copy_of.ensures.seq ∙ number ∙ here) held;
     }

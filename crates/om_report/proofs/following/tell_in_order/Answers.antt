@@ -1,16 +1,17 @@
-use Rattle.std.proofs.Common.{◌∙◌, rules}
+use Rattle.std.proofs.Common.{◌∙◌, refl, rules}
+use Rattle.om_report.proofs.FollowLemmas.{have_none, have_then}
 use Rattle.om_report.proofs.following.tell_in_order.Goals as goal
 
-pub returns-then-not-tell_release-clause-outputs : goal.returns-then-not-tell_release-clause-outputs
-returns-then-not-tell_release-clause-outputs g c = c.tell_release.ensures.outputs ∙ c.loop-release.invariant.outputs
+pub loop-release-init : goal.loop-release-init
+loop-release-init g c = record { many = refl; copied = refl; told = have_none g.F.Follower.Tells c.args.lanes.now.items c.args.follower.now }
 
-pub returns-then-not-tell_release-clause-kept : goal.returns-then-not-tell_release-clause-kept
-returns-then-not-tell_release-clause-kept g c = λ vec are. c.tell_release.ensures.kept vec (c.loop-release.invariant.kept vec are)
+pub returns-then-not-tell_release-clause-copied : goal.returns-then-not-tell_release-clause-copied
+returns-then-not-tell_release-clause-copied g c = c.tell_release.ensures.copied ∙ c.loop-release.invariant.copied
 
 pub loop-release-preserved : goal.loop-release-preserved
 loop-release-preserved g c = record {
   many = search rules;
-  outputs = c.tell_release.ensures.outputs ∙ c.loop-release.invariant.outputs;
-  kept = λ vec are. c.tell_release.ensures.kept vec (c.loop-release.invariant.kept vec are);
-  told = λ start was. c.tell_release.ensures.told (search rules) start (c.loop-release.invariant.told start was);
+  copied = c.tell_release.ensures.copied ∙ c.loop-release.invariant.copied;
+  told = have_then g.F.Follower.Tells c.args.lanes.now.items c.loop-release.lanes.items c.tell_release.new.lanes.items c.args.follower.now c.loop-release.follower c.tell_release.new.follower
+      c.loop-release.invariant.told (c.tell_release.ensures.told (search rules));
 }

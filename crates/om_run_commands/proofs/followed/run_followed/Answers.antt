@@ -12,7 +12,7 @@ returns-in-Ok-write_ends-clause-text g c =
     (g.W.Write.contents c.args.writer) (g.W.Write.contents run.result.1.writer) (g.W.Write.contents c.write_ends.new.writer)
     ((run.result.1.programs.now ≡ c.programs-programs.result.now) × (run.result.1.form ≡ c.args.form))
     c.in-Ok-ended.is c.programs-programs.ensures c.in-Ok.ensures.programs
-    run.ensures.report run.ensures.told
+    run.ensures.told
     c.deref.ensures.value c.in-Ok-write_ends.ensures.text
 
 pub returns-in-Err-clause-partly : goal.returns-in-Err-clause-partly

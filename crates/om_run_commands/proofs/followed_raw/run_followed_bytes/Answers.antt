@@ -10,7 +10,7 @@ returns-in-Ok-ended-clause-text g c =
     bytes_of_report c.args.pid ((store : g.row.O-Store.Denot) → IsTrue (g.O.Store.Stable.is_clean store)) c.args.script.now c.in-Ok.config.images.items
     run.result.0 c.in-Ok-ended.report (g.W.Write.contents c.args.writer) (g.W.Write.contents run.result.1.writer) (run.result.1.pid ≡ c.args.pid)
     c.in-Ok-ended.is c.in-Ok.ensures.programs
-    run.ensures.report run.ensures.told
+    run.ensures.told
 
 pub returns-clause-partly : goal.returns-clause-partly
 returns-clause-partly g c =

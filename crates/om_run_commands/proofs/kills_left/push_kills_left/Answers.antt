@@ -17,7 +17,7 @@ loop-i-preserved c =
     text_grows (λ k. let at = slice_index_or kills k (0, 0) in if is_left kills failures k then left_line (name_at cluster at.0) at.1 else []) c.loop-i.i
     (string_bytes c.args.text.now) before (string_bytes c.push_left.new.text) c.loop-i.invariant
     (c.in_ok-push_left.ensures
-    ∙ ap (λ name. before ++ (if left then left_line name kill.1 else [])) c.name_in.ensures
+    ∙ ap (λ name. before ++ (if left then left_line name kill.1 else [])) c.name_of.ensures
     ∙ ap (λ p. before ++ (if left then left_line (name_at cluster p) kill.1 else [])) c.index.ensures.place
     ∙ ap (λ l. before ++ (if l then left_line (name_at cluster kill.0) kill.1 else [])) c.is_left_after-is_left.ensures
     ∙ ap {A = ℕ × ℕ} (λ k. before ++ (if is_left_after (take c.loop-i.i kills) k failures then left_line (name_at cluster k.0) k.1 else []))

@@ -14,10 +14,10 @@ loop-p-preserved c =
     let sights = c.args.sights.now in
     let p = c.loop-p.p in
     let before = string_bytes c.loop-p.text in
-    let name = c.name_in.result.now in
+    let name = c.name_of.result.now in
     let seen = slice_index_or sights p unseen in
     text_grows (λ k. refused_line (name_at cluster k) (slice_index_or sights k unseen).refused) p
     (string_bytes c.args.text.now) before (string_bytes c.push_refused.new.text) c.loop-p.invariant
     (c.in_ok-push_refused.ensures
     ∙ ap {A = Sight} (λ s. before ++ refused_line name s.refused) (get_or_default sights p c.index-sights-p.result unseen c.loop-p-test.true)
-    ∙ ap (λ n. before ++ refused_line n seen.refused) c.name_in.ensures)
+    ∙ ap (λ n. before ++ refused_line n seen.refused) c.name_of.ensures)

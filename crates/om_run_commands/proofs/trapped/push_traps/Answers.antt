@@ -13,7 +13,7 @@ loop-p-preserved c =
     let sights = c.args.sights.now in
     let p = c.loop-p.p in
     let before = string_bytes c.loop-p.text in
-    let name = c.name_in.result.now in
+    let name = c.name_of.result.now in
     let for_doing = c.index-sights-p.result in
     let for_pc = c.index-sights-p-in-loop-p.result in
     let seen = slice_index_or sights p unseen in
@@ -22,4 +22,4 @@ loop-p-preserved c =
     (c.in_ok-push_trap.ensures
     ∙ ap {A = Sight} (λ s. before ++ trap_line name s.doing (slice_index_or sights p for_pc).pc) (get_or_default sights p for_doing unseen c.loop-p-test.true)
     ∙ ap {A = Sight} (λ s. before ++ trap_line name seen.doing s.pc) (get_or_default sights p for_pc unseen c.loop-p-test.true)
-    ∙ ap (λ n. before ++ trap_line n seen.doing seen.pc) c.name_in.ensures)
+    ∙ ap (λ n. before ++ trap_line n seen.doing seen.pc) c.name_of.ensures)

@@ -15,7 +15,7 @@ gathered_in-requires g c = subst (λ (v : Vec HarvestState Global). AreOwn v.ite
 pub returns-clause-whole : goal.returns-clause-whole
 returns-clause-whole g c =
     let is_clean = g.O.Store.Stable.is_clean in
-    let images = c.args.cluster.now.plan.now.images.items in
+    let images = c.args.cluster.now.config.now.images.items in
     let parts = c.args.parts in
     let brought = c.settled-statuses in
     let released = c.in-Ok.released.items in
@@ -32,7 +32,7 @@ pub returns-clause-report : goal.returns-clause-report
 returns-clause-report g c =
     let is_clean = g.O.Store.Stable.is_clean in
     let k = g.K.Naming in
-    let images = c.args.cluster.now.plan.now.images.items in
+    let images = c.args.cluster.now.config.now.images.items in
     let parts = c.args.parts in
     let brought = c.settled-statuses in
     let released = c.in-Ok.released in

@@ -6,6 +6,6 @@ use Rattle.om_runner.proofs.cluster.run_and_keep_stores.Given as goal
 abbrev pub ghosts-run_named : goal.ghosts-run_named
 ghosts-run_named g a = record {
   cell = a.blank;
-  programs = map program_of a.plan.now.images.items;
+  programs = map program_of a.config.now.images.items;
   OverClean = AreAlwaysClean g.O.Store.Stable.is_clean;
 }

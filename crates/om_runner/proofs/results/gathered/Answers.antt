@@ -9,7 +9,7 @@ pub returns-in-Ok-clause-parts : goal.returns-in-Ok-clause-parts
 returns-in-Ok-clause-parts g c =
     let is_clean = g.O.Store.Stable.is_clean in
     let n = g.K.Naming.cell.n in
-    let images = c.args.cluster.now.plan.now.images.items in
+    let images = c.args.cluster.now.config.now.images.items in
     let lines = c.args.cluster.now.inboxes.now in
     let results = c.args.results.items in
     let all = c.in_ok-all.all.items in
@@ -34,4 +34,4 @@ returns-in-Ok-clause-parts g c =
 pub returns-in-Ok-clause-given : goal.returns-in-Ok-clause-given
 returns-in-Ok-clause-given g c =
     let long : length c.args.results.items ≡ g.K.Naming.cell.n = (let l = c.requires.long in search rules) in
-    given_by c.args.cluster.now.plan.now g.K.Naming.cell.n c.args.results.items c.in_ok-all.all.items c.requires.some long c.in_ok-all.ensures.all c.requires.own
+    given_by c.args.cluster.now.config.now g.K.Naming.cell.n c.args.results.items c.in_ok-all.all.items c.requires.some long c.in_ok-all.ensures.all c.requires.own

@@ -55,7 +55,7 @@ new-links-requires-clause-taking g c =
 
 pub start_apart-requires-clause-program : goal.start_apart-requires-clause-program
 start_apart-requires-clause-program g c = λ lifetimes outlive.
-    let images = c.args.cluster.now.plan.now.images.items in
+    let images = c.args.cluster.now.config.now.images.items in
     let own = c.len-own.result in
     let image = c.index-image.result.now in
     let within : own < length images = search rules in
@@ -69,7 +69,7 @@ loop-one-preserved g c =
     let was = c.loop-one.invariant in
     let done = vec_len c.loop-one.handles in
     let n = g.K.Naming.cell.n in
-    let images = c.args.cluster.now.plan.now.images.items in
+    let images = c.args.cluster.now.config.now.images.items in
     let lines = c.args.cluster.now.inboxes.now in
     let handle = c.in-Some-start_apart.handle in
     let started = c.in-Some-start_apart.ensures in
@@ -86,13 +86,13 @@ loop-one-preserved g c =
           let at : done + (k + 1) ≡ vec_len c.push_reserved.new.self + k = omega (arith, grown) in
           subst (λ i. HasEnds n lines i (get_or rest k e)) at (subst (HasEnds n lines (done + (k + 1))) same (was.3 (k + 1) e less))),
       λ k a h lt.
-          let here : IsPromised c.args.cluster.now.plan.now (get_or images (length c.loop-one.handles.items) a) lines (length c.loop-one.handles.items) n handle.promise = record {
-            plan_is = started.plan;
+          let here : IsPromised c.args.cluster.now.config.now (get_or images (length c.loop-one.handles.items) a) lines (length c.loop-one.handles.items) n handle.promise = record {
+            plan_is = started.config;
             image_is = started.image ∙ c.index-image.ensures ∙ any_default images c.len-own.result c.index-image.result.now a within ∙ ap (λ i. get_or images i a) own;
             lines_are = started.inboxes ∙ c.new-links.ensures.lines;
             own_is = started.own ∙ c.new-links.ensures.own ∙ c.at.ensures ∙ own;
             n_is = started.n;
           } in
-          each_more (λ i x. IsPromised c.args.cluster.now.plan.now (get_or images i a) lines i n x.promise) c.loop-one.handles.items c.push_reserved.new.self.items handle c.push_reserved.ensures.items
+          each_more (λ i x. IsPromised c.args.cluster.now.config.now (get_or images i a) lines i n x.promise) c.loop-one.handles.items c.push_reserved.new.self.items handle c.push_reserved.ensures.items
           (λ i x below. was.4 i a x (search rules)) here k h (search rules),
     )

@@ -8,7 +8,7 @@ use Rattle.om_runner.proofs.starting.start_all.Given as goal
 abbrev pub invariant-loop-one : goal.invariant-loop-one
 invariant-loop-one g l =
     let n = g.K.Naming.cell.n in
-    let images = l.cluster.plan.now.images.items in
+    let images = l.cluster.config.now.images.items in
     let done = vec_len l.handles in
     let rest = into_iter_items l.one-iterator in
     (done + into_iter_len l.one-iterator ≡ n)
@@ -16,7 +16,7 @@ invariant-loop-one g l =
     × (vec_len l.passes ≡ into_iter_len l.one-iterator)
     × ((k : ℕ) (e : _) → k < into_iter_len l.one-iterator → HasEnds n l.cluster.inboxes.now (done + k) (get_or rest k e))
     × ((k : ℕ) (a : Image) (h : _) → k < done
-    → IsPromised l.cluster.plan.now (get_or images k a) l.cluster.inboxes.now k n (get_or (vec_items l.handles) k h).promise)
+    → IsPromised l.cluster.config.now (get_or images k a) l.cluster.inboxes.now k n (get_or (vec_items l.handles) k h).promise)
 
 -- the book that was just opened
 abbrev pub ghosts-start_apart : goal.ghosts-start_apart

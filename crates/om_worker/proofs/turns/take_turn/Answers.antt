@@ -7,7 +7,7 @@ use Rattle.om_worker.proofs.turns.take_turn.Goals as goal
 
 pub returns-in-AllQuiet-clause-turned : goal.returns-in-AllQuiet-clause-turned
 returns-in-AllQuiet-clause-turned g c =
-    let same : c.in-AllQuiet.node.member ≡ member_of c.args.place = sym (ap member_of c.in-AllQuiet.is) ∙ c.in-Ok.ensures.place in
+    let same : c.in-AllQuiet.node.member ≡ member_of c.args.state = sym (ap member_of c.in-AllQuiet.is) ∙ c.in-Ok.ensures.place in
     subst (λ (m : Member). IfOk c.leave.result (λ t. IsTurned g.S.Stable.is_clean m t)) same c.leave.ensures.turned
 
 pub returns-in_default : goal.returns-in_default

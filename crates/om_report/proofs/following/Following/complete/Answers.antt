@@ -1,5 +1,5 @@
-use Rattle.std.proofs.Common.{subst, sym}
-use Rattle.om_report.specs.Harvests.{AreNoFewer, harvested}
+use Rattle.om_report.proofs.FollowLemmas.{all_copied_same}
+use Rattle.om_report.specs.Harvests.{harvested}
 use Rattle.om_report.proofs.following.Following.complete.Goals as goal
 
 pub returns-clause-followed : goal.returns-clause-followed
@@ -7,4 +7,4 @@ returns-clause-followed g c = λ start was. c.tell.ensures.followed start (c.tak
 
 pub returns-clause-brought : goal.returns-clause-brought
 returns-clause-brought g c = λ none.
-    subst (AreNoFewer (harvested c.args.harvests.items)) (sym c.tell.ensures.outputs) (c.take_back-following.ensures.all (c.tell.ensures.fault none))
+    all_copied_same (harvested c.args.harvests.items) c.take_back-following.result.0.lanes.items c.tell.result.lanes.items c.tell.ensures.copied (c.take_back-following.ensures.all (c.tell.ensures.fault none))

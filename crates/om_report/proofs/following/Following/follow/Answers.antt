@@ -10,7 +10,7 @@ loop-preserved g c = λ start was. c.look-following.ensures.followed start (c.lo
 
 pub returns : goal.returns
 returns g c = λ start was.
-    let Is : Following g.row.K.Denot g.row.F.Denot g.K.Naming g.F.Follower → Type 0 = λ f. f.fault ≢ Some Unwanted → IsTold g.F.Follower.Tells start f.lanes.items f.follower in
+    let Is : Following g.row.K.Denot g.row.F.Denot g.K.Naming g.F.Follower → Type 0 = λ f. f.fault ≢ Some Unwanted → IsTold g.F.Follower.Tells g.K.Naming.OverClean g.K.Naming.programs g.K.Naming.cell.n f.front.vec start f.lanes.items f.follower in
     elim c.match-next.branch [
       | in-None w ↦ subst Is (sym w.following-is) (c.loop.invariant start was)
       | in-Some+then-is_over w ↦ subst Is (sym w.following-is) (w.look-following.ensures.followed start (c.loop.invariant start was))

@@ -6,6 +6,6 @@ use Rattle.om_report.proofs.following.Following.into_fault.Goals as goal
 
 pub returns-clause-partly : goal.returns-clause-partly
 returns-clause-partly g c = λ start was wanted.
-    told_partly g.F.Follower.Tells start c.args.self.follower c.args.self.front.vec c.args.self.lanes.items g.K.Naming.OverClean g.K.Naming.programs g.K.Naming.cell.n
-    c.args.self.kept c.args.self.made
+    let k = g.K.Naming in
+    told_partly g.F.Follower.Tells k.OverClean k.programs k.cell.n c.args.self.front.vec start c.args.self.lanes.items c.args.self.follower
     (was (λ same. wanted (c.unwrap_or.ensures ∙ ap (λ fault. unwrap_or fault (Run c.args.fault)) same)))

@@ -1,26 +1,28 @@
-use Rattle.std.proofs.Common.{◌≡◌, ◌∙◌, ap, rules, subst, sym}
+use Rattle.std.proofs.Common.{◌≡◌, ◌∙◌, ap, length, rules, subst, sym}
 use Rattle.om_board.specs.Boards.{BoardState, IsBoard}
 use Rattle.om_board.specs.Made.{HoldsMade}
-use Rattle.om_manager.specs.State.{ManagerState}
-use Rattle.om_report.proofs.FollowLemmas.{kept_met}
-use Rattle.om_report.specs.steps.Lanes.{AreKept, StayKept}
+use Rattle.om_manager.specs.State.{ManagerState, process_count, released_by}
+use Rattle.om_report.proofs.FollowLemmas.{followed_met, released_more, stays_behind}
+use Rattle.om_report.specs.steps.Lanes.{AreMore}
 use Rattle.om_report.proofs.following.Following.take_in.Goals as goal
 
 pub invariant_of-following : goal.invariant_of-following
-invariant_of-following g c =
-    let n = g.K.Naming.cell.n in
-    let board = c.deref_mut-board.result.now in
-    let lanes = c.args.self.lanes.items in
-    let new = c.add_all.new.lanes.items in
-    let sound : IsBoard n board = subst (IsBoard n) c.meet-front.ensures.same c.manager.ensures.sound in
-    let manager : c.manager.result.now ≡ board.manager = c.manager.ensures.manager ∙ ap (λ (b : BoardState). b.manager) c.meet-front.ensures.same in
-    let adds = subst (λ (m : ManagerState). AreKept m.recovery lanes → AreKept m.recovery new) manager c.add_all.ensures.kept in
-    let kept = kept_met n board c.args.self.pass c.meet-front.result.0 lanes new c.args.self.stay c.meet-front.ensures.behind sound c.meet-front.ensures.manager adds in
-    record {
-      many = search rules;
-      few = search rules;
-      kept = kept.0;
-      stay = subst (λ seen. StayKept seen new) (sym c.meet-front.ensures.all) kept.1;
-      made = λ clean. c.add_all.ensures.made g.K.Naming.programs n
-          (subst (HoldsMade g.K.Naming.programs n) (sym c.manager.ensures.manager) (c.manager.ensures.made clean)) (c.args.self.made clean);
-    }
+invariant_of-following g c = record { many = search rules; few = search rules; behind = stays_behind _ c.meet-front.result.0 c.meet-front.ensures.last }
+
+pub returns : goal.returns
+returns g c = record {
+  followed = λ start was wanted.
+      let k = g.K.Naming in
+      let self = c.args.self in
+      let board = c.deref_mut-board.result.now in
+      let lanes = self.lanes.items in
+      let new = c.add_all-copied.new.lanes.items in
+      let sound : IsBoard k.cell.n board = subst (IsBoard k.cell.n) c.meet-front.ensures.same c.manager.ensures.sound in
+      let manager : c.manager.result.now ≡ board.manager = c.manager.ensures.manager ∙ ap (λ (b : BoardState). b.manager) c.meet-front.ensures.same in
+      let size : length lanes ≡ process_count board.manager = sym self.lanes.ok.0 ∙ self.many ∙ sym sound.places in
+      let more = released_more k.programs k.cell.n k.OverClean board.manager lanes new sound.manager size
+      (λ clean. subst (λ (b : BoardState). HoldsMade k.programs k.cell.n b.manager) c.meet-front.ensures.same (c.manager.ensures.made clean))
+      (subst (λ (m : ManagerState). AreMore (released_by m) lanes new) manager c.add_all-copied.ensures.more) in
+      followed_met g.F.Follower.Tells k.OverClean k.programs k.cell.n board self.pass self.front c.meet-front.result.0 start lanes new self.follower sound self.behind
+      c.meet-front.ensures.behind c.meet-front.ensures.manager more (was (λ same. wanted (c.fault_of_copy.ensures.unwanted same)));
+}

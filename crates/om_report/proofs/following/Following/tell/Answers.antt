@@ -1,12 +1,16 @@
-use Rattle.std.proofs.Common.{rules}
-use Rattle.om_report.proofs.FollowLemmas.{made_same}
+use Rattle.std.proofs.Common.{◌∙◌, sym}
+use Rattle.om_report.proofs.FollowLemmas.{followed_told}
 use Rattle.om_report.proofs.following.Following.tell.Goals as goal
 
-pub invariant_of-result : goal.invariant_of-result
-invariant_of-result g c = record {
-  many = search rules;
-  few = search rules;
-  kept = c.tell_all.ensures.kept c.args.self.front.vec c.args.self.kept;
-  stay = λ posted last begins rises ends. c.tell_all.ensures.kept last.vec (c.args.self.stay posted last begins rises ends);
-  made = λ clean. made_same g.K.Naming.programs g.K.Naming.cell.n c.args.self.lanes.items _ c.tell_all.ensures.outputs (c.args.self.made clean);
-}
+pub returns-clause-followed : goal.returns-clause-followed
+returns-clause-followed g c = λ start was wanted.
+    let k = g.K.Naming in
+    let self = c.args.self in
+    followed_told g.F.Follower.Tells k.OverClean k.programs k.cell.n self.front.vec start self.lanes.items c.tell_all-goes_on.new.lanes.items self.follower c.tell_all-goes_on.new.follower
+    (c.tell_all-goes_on.ensures.told (c.fault_of_wish.ensures.on wanted)) c.tell_all-goes_on.ensures.copied (was (λ same. wanted (c.fault_of_wish.ensures.same wanted ∙ same)))
+
+pub returns-clause-all : goal.returns-clause-all
+returns-clause-all g c = λ none. c.tell_all-goes_on.ensures.all (c.fault_of_wish.ensures.on (λ same. cc))
+
+pub returns-clause-fault : goal.returns-clause-fault
+returns-clause-fault g c = λ none. sym (c.fault_of_wish.ensures.same (λ same. cc)) ∙ none

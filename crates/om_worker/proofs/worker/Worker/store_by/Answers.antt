@@ -8,9 +8,9 @@ pub returns-then-is_log_due-clause-stored : goal.returns-then-is_log_due-clause-
 returns-then-is_log_due-clause-stored g c =
     let a = c.args.self.now in
     let flush = c.is_multiple-is_flush_due in let every = c.is_multiple-is_checkpoint_due in let kept = c.is_some in
-    let due : (is_multiple_of c.args.x a.plan.now.flush || (is_some a.kept && is_multiple_of c.args.x a.plan.now.checkpoint)) ≡ true =
-    ap (λ (b : Bool). b || (is_some a.kept && is_multiple_of c.args.x a.plan.now.checkpoint)) (sym flush.ensures)
-    ∙ ap (λ (b : Bool). flush.result || (b && is_multiple_of c.args.x a.plan.now.checkpoint)) (sym kept.ensures)
+    let due : (is_multiple_of c.args.x a.config.now.flush || (is_some a.kept && is_multiple_of c.args.x a.config.now.checkpoint)) ≡ true =
+    ap (λ (b : Bool). b || (is_some a.kept && is_multiple_of c.args.x a.config.now.checkpoint)) (sym flush.ensures)
+    ∙ ap (λ (b : Bool). flush.result || (b && is_multiple_of c.args.x a.config.now.checkpoint)) (sym kept.ensures)
     ∙ ap (λ (b : Bool). flush.result || (kept.result && b)) (sym every.ensures)
     ∙ sym c.is_log_due.ensures ∙ c.if-is_log_due.true in
-    stored_log c.args.x a.plan.now.flush a.plan.now.checkpoint (is_some a.kept) every.result c.args.node.now.core c.store.new.node.core every.ensures due c.in_ok-store.ensures.stored
+    stored_log c.args.x a.config.now.flush a.config.now.checkpoint (is_some a.kept) every.result c.args.node.now.core c.store.new.node.core every.ensures due c.in_ok-store.ensures.stored
