@@ -1,5 +1,5 @@
 -- What an event leaves of the machine of a process.
-use Rattle.std.proofs.Common.{◌≡◌, ◌≢◌, inl, inr, ℕ, zero, suc, length, replicate, set, Option, Some, None, Bool, true, false, refl, sym, ap, ◌∙◌, subst}
+use Rattle.std.proofs.Common.{◌≡◌, ◌≢◌, ◌⊎◌, inl, inr, ℕ, zero, suc, length, replicate, set, Option, Some, None, Bool, true, false, refl, sym, ap, ◌∙◌, subst}
 use Rattle.std.specs.Prelude.{if◌then◌else◌, nat_eq, slice_get}
 use Rattle.std.proofs.lemmas.Bool.Decides.{nat_tests}
 use Rattle.std.proofs.Common.{arith}
@@ -14,7 +14,8 @@ use Rattle.om_world.specs.declared.event.Event.{Event}
 use Rattle.om_world.specs.declared.event.Event.TheVariants as events
 use Rattle.om_world.specs.declared.event.Refusal.{Refusal}
 use Rattle.om_world.specs.declared.event.Refusal.TheVariants as refusals
-use Rattle.om_world.specs.Failures.{BackStopped}
+use Rattle.om_world.specs.Changes.{StoreStopped}
+use Rattle.om_world.specs.Failures.{BackStopped, HasHanded}
 use Rattle.om_world.specs.Happened.{GiveRefused, Happened, JoinRefused, StoreRefused, UnlessUp}
 use Rattle.om_world.specs.World.{WorldState}
 use Rattle.om_world.proofs.Lists.{at_change, once}
@@ -199,7 +200,7 @@ refused_join p q old new why h k = stays_unless p q old new why _ (by why (told_
   where
     by : (why : Refusal) → why ≢ refusals.Memory → JoinRefused old q why new → StaysFor p old new
     by refusals.NoRound other r = stays_same p old new r.1
-    by why other r = stays_unstored Log p q old new why _ other r.1
+    by why other r = stays_unstored Log p q old new why (StoreStopped Log old q new ⊎ ((core : CoreState) × HasHanded old q core new)) other r.1
 
 stays_join : (p : ℕ) (q : ℕ) (old new : WorldState) (a : Answer) → Happened old (events.Join q) a new → kind_of p a (events.Join q) ≡ kinds.Nothing → StaysFor p old new
 stays_join p q old new (answers.Gathered answer) h k = stays_set p q old new h.core _ h.handed.changes.before (ap (λ (w : WorldState). w.cores) h.others ∙ h.handed.changes.cores) refl

@@ -1,7 +1,0 @@
-//! Tests of the process of a store at any moment that the store knows of.
-#![tactic(auto)]
-
-#[cfg(test)]
-mod places;
-#[cfg(test)]
-mod stores;
