@@ -8,6 +8,7 @@ ghost use Rattle.om_node.specs.Nodes.{AreAlwaysClean};
 ghost use Rattle.om_worker.specs.Ends.{IsGiven};
 ghost use Rattle.om_report.specs.Reports.{IsWholeReport};
 ghost use Rattle.om_runner.specs.steps.Ends.{AreParts};
+ghost use Rattle.om_runner.specs.steps.Starting.{IsNamedFor};
 
 use crate::cluster::{close, run_workers};
 use crate::main_task::MainTask;
@@ -62,9 +63,7 @@ fn report_of<K: Naming, R: Wait, G: Gate, O: Opener<R>>(
     cluster: &Cluster<'_, K, R, G, O>,
     parts: Result<Parts<K, O::Store>, RunFault>,
 ) -> Result<Report, RunFault>
-    requires images { length cluster.now.plan.now.images.items ≡ K.cell.n }
-    requires programs { K.programs ≡ map program_of cluster.now.plan.now.images.items }
-    requires clean { K.OverClean → AreAlwaysClean O.Store.is_clean }
+    requires named { IsNamedFor O.Store.is_clean K.OverClean K.programs K.cell.n cluster.now.plan.now.images.items }
     requires parts { IfOk parts (AreParts O.Store.is_clean cluster.now.plan.now.images.items cluster.now.inboxes.now) }
     requires given { OnOk parts (IsGiven cluster.now.plan.now) }
     requires fault { IfErr parts (IsFaultOf K.cell.n) }
