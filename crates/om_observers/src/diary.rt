@@ -86,7 +86,8 @@ fn add_messages_to(
             inc: core.inc(),
             ssn,
         };
-        acts.push(Act::Send { letter })?;
+        let kept = oldest.ssn;
+        acts.push(Act::Send { letter, kept })?;
         after = ssn.saturating_add(1);
     }
     Ok(after)

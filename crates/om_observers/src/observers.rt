@@ -36,8 +36,11 @@ impl<'a> Observers<'a> {
         }
     }
 
-    /// Tells the herald, if there is one, that a worker has ended.
+    /// Tells the recorder and the herald, those that there are, that a worker has ended.
     pub fn end(&self) {
+        if let Some(recorder) = self.recorder {
+            recorder.end();
+        }
         if let Some(herald) = self.herald {
             herald.end();
         }

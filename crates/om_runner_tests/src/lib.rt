@@ -24,6 +24,8 @@ mod restarts;
 #[cfg(test)]
 mod rows;
 #[cfg(test)]
+mod scribes;
+#[cfg(test)]
 mod threads;
 #[cfg(test)]
 mod waiting;
