@@ -63,12 +63,12 @@ fn report_of<K: Naming, R: Wait, G: Gate, O: Opener<R>>(
     cluster: &Cluster<'_, K, R, G, O>,
     parts: Result<Parts<K, O::Store>, RunFault>,
 ) -> Result<Report, RunFault>
-    requires named { IsNamedFor O.Store.is_clean K.OverClean K.programs K.cell.n cluster.now.plan.now.images.items }
-    requires parts { IfOk parts (AreParts O.Store.is_clean cluster.now.plan.now.images.items cluster.now.inboxes.now) }
-    requires given { OnOk parts (IsGiven cluster.now.plan.now) }
+    requires named { IsNamedFor O.Store.is_clean K.OverClean K.programs K.cell.n cluster.now.config.now.images.items }
+    requires parts { IfOk parts (AreParts O.Store.is_clean cluster.now.config.now.images.items cluster.now.inboxes.now) }
+    requires given { OnOk parts (IsGiven cluster.now.config.now) }
     requires fault { IfErr parts (IsFaultOf K.cell.n) }
     ensures report { IfOk result (IsWholeReport K.OverClean K.programs) }
-    ensures given { OnOk result (IsGiven cluster.now.plan.now) }
+    ensures given { OnOk result (IsGiven cluster.now.config.now) }
     ensures fault { IfErr result (IsFaultOf K.cell.n) }
 {
     let (report, _, _, _) = close(cluster, parts?)?;
@@ -84,30 +84,30 @@ fn run_named<
 >(
     rt: &R,
     alloc: Global,
-    plan: &Config,
+    config: &Config,
     gate: &G,
     opener: &O,
     scribe: S,
     blank: Blank,
 ) -> (Result<Report, RunFault>, S)
     requires named { blank ≡ K.cell }
-    requires size { blank.n ≡ length plan.now.images.items }
-    requires some { 1 ≤ length plan.now.images.items }
-    requires few { length plan.now.images.items ≤ MAX_PROCESSES }
-    requires programs { K.programs ≡ map program_of plan.now.images.items }
+    requires size { blank.n ≡ length config.now.images.items }
+    requires some { 1 ≤ length config.now.images.items }
+    requires few { length config.now.images.items ≤ MAX_PROCESSES }
+    requires programs { K.programs ≡ map program_of config.now.images.items }
     requires clean { K.OverClean → AreAlwaysClean O.Store.is_clean }
     ensures report { IfOk result.0 (IsWholeReport K.OverClean K.programs) }
-    ensures given { OnOk result.0 (IsGiven plan.now) }
-    ensures fault { IfErr result.0 (IsFaultOf (length plan.now.images.items)) }
+    ensures given { OnOk result.0 (IsGiven config.now) }
+    ensures fault { IfErr result.0 (IsFaultOf (length config.now.images.items)) }
 {
-    let Ok((ground, ends, passes)) = ground_of::<K>(alloc, plan.images.len(), blank) else {
+    let Ok((ground, ends, passes)) = ground_of::<K>(alloc, config.images.len(), blank) else {
         return (Err(RunFault::Memory), scribe);
     };
     let recorder = Recorder::new(alloc);
     let cluster = Cluster {
         rt,
         alloc,
-        plan,
+        config,
         gate,
         opener,
         shared: &ground.shared,
