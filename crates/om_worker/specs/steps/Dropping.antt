@@ -1,0 +1,14 @@
+-- What a process drops of its messages to processes that take none any more.
+use Rattle.std.specs.Prelude.{◌≡◌, ℕ, ◌⊎◌, All, List, [], ◌∷◌, ◌++◌}
+use Rattle.om_process.specs.Core.{CoreState, with_now}
+use Rattle.om_process.specs.Trims.{trimmed}
+
+-- each of the bounds is the least number, or the greatest: nothing stands below it, or all
+abbrev pub AreAllOrNone : List ℕ → Type 0
+AreAllOrNone bounds = All (λ bound. (bound ≡ 0) ⊎ (bound ≡ 0xFFFF_FFFF)) bounds
+
+-- all messages to some processes are dropped, or none, and no output; the rest is as it was
+abbrev pub HasDropped : CoreState → CoreState → Type 0
+HasDropped old new =
+    (new ≡ old)
+    ⊎ ((bounds : List ℕ) × AreAllOrNone bounds × (new ≡ with_now old (trimmed (bounds ++ 0 ∷ []) old.now)))
