@@ -20,7 +20,7 @@ use om_board::{Naming, Pass, Shared};
 use om_interval::Pid;
 use om_node::{Due, Kept, Node, WorkerFault};
 use om_observers::{Diary, Observers, Past, Sight, Watch};
-use om_process::{Accept, PendingRow, Status, Witness};
+use om_process::{Accept, PendingRow, ProcCore, Status, Witness};
 use om_report::Harvest;
 use om_restart::Found;
 use om_stable::{Ledger, Stable};
@@ -65,6 +65,10 @@ pub(crate) struct Worker<'a, K: Naming> {
     patience: SpinPolicy,
     // Whether all that the process keeps was resent, after some idle turns, since it ran, received or refused a message.
     resent: bool,
+    // Whether the process had ended when it ran last.
+    has_ended: bool,
+    // Whether all are told that it takes no message any more.
+    is_over: bool,
     // How many turns the last one counts as beside itself.
     extra: u64,
     ghost linked: { links.own ≡ manager_link.pid },
@@ -137,6 +141,8 @@ impl<'a, K: Naming> Worker<'a, K> {
             idle: Idle::new(),
             patience: SpinPolicy::new(),
             resent: false,
+            has_ended: false,
+            is_over: false,
             extra: 0,
         }
     }
@@ -350,7 +356,11 @@ impl<'a, K: Naming> Worker<'a, K> {
         }
         let mut node = node;
         match self.step(rt, alloc, &mut node) {
-            Ok(step) => Ok((step.place_of(node), pass)),
+            Ok(step) => {
+                let mut pass = pass;
+                self.tell_end(rt, node.core(), &mut pass);
+                Ok((step.place_of(node), pass))
+            }
             Err(worker_fault) => {
                 drop(node);
                 Err(worker_fault)
@@ -438,6 +448,7 @@ impl<'a, K: Naming> Worker<'a, K> {
         }
         let ran = node.run(alloc, self.plan.fuel)?;
         self.diary.ran(rt, node.core(), ran)?;
+        self.has_ended = ran.status.has_ended();
         if ran.steps > 0 {
             self.change();
         }
@@ -482,8 +493,29 @@ impl<'a, K: Naming> Worker<'a, K> {
         let (standing, limits) = self
             .manager_link
             .meet(rt, alloc, node, ended, is_patient, &mut self.diary)?;
+        let is_trimmed = limits.is_some();
         self.apply_limits(alloc, node, limits, ended)?;
+        self.drop_untaken(node, is_trimmed);
         Ok(standing)
+    }
+
+    // Tells all senders once the process takes no message any more, whatever fails: it has ended, and its interval is in the recovery
+    // state of its round, so that no round takes its end back.
+    fn tell_end<R: Wait>(&mut self, rt: &R, core: &ProcCore, pass: &mut Pass<K>)
+        ensures { self.new.links ≡ self.old.links }
+    {
+        if !self.has_ended || self.is_over {
+            return;
+        }
+        let front = self.manager_link.read(rt, pass);
+        let is_reached = match front.vec.as_slice().get(self.manager_link.pid.index()) {
+            Some(interval) => *interval >= core.interval(),
+            None => false,
+        };
+        if is_reached && front.round == core.round() {
+            self.links.tell_end();
+            self.is_over = true;
+        }
     }
 
     // Takes a message, where the process waits for one. What comes to one that has ended is dropped: a round that rolls it back
