@@ -12,6 +12,8 @@ mod checked_restarts;
 #[cfg(test)]
 mod clusters;
 #[cfg(test)]
+mod ended;
+#[cfg(test)]
 mod flights;
 #[cfg(test)]
 mod inboxes;

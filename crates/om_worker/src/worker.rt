@@ -18,7 +18,7 @@ use om_board::{Naming, Pass, Shared};
 use om_interval::Pid;
 use om_node::{Due, Kept, Node, WorkerFault};
 use om_observers::{Diary, Observers, Past, Sight, Watch};
-use om_process::{Accept, PendingRow, Status, Witness};
+use om_process::{Accept, PendingRow, ProcCore, Status, Witness};
 use om_report::Harvest;
 use om_restart::Found;
 use om_stable::{Ledger, Stable};
@@ -63,6 +63,10 @@ pub(crate) struct Worker<'a, K: Naming> {
     patience: SpinPolicy,
     // Whether all that the process keeps was resent, after some idle turns, since it ran, received or refused a message.
     resent: bool,
+    // Whether the process had ended when it ran last.
+    has_ended: bool,
+    // Whether all are told that it takes no message any more.
+    is_over: bool,
     // How many turns the last one counts as beside itself.
     extra: u64,
     ghost linked: { links.own ≡ manager_link.pid },
@@ -135,6 +139,8 @@ impl<'a, K: Naming> Worker<'a, K> {
             idle: Idle::new(),
             patience: SpinPolicy::new(),
             resent: false,
+            has_ended: false,
+            is_over: false,
             extra: 0,
         }
     }
@@ -339,7 +345,11 @@ impl<'a, K: Naming> Worker<'a, K> {
         }
         let mut node = node;
         match self.step(rt, alloc, &mut node) {
-            Ok(turn_outcome) => Ok((turn_outcome.place_of(node), pass)),
+            Ok(turn_outcome) => {
+                let mut pass = pass;
+                self.tell_end(rt, node.core(), &mut pass);
+                Ok((turn_outcome.place_of(node), pass))
+            }
             Err(worker_fault) => {
                 drop(node);
                 Err(worker_fault)
@@ -421,6 +431,7 @@ impl<'a, K: Naming> Worker<'a, K> {
         }
         let ran = node.run(alloc, self.config.fuel)?;
         self.diary.ran(rt, node.core(), ran)?;
+        self.has_ended = ran.status.has_ended();
         if ran.steps > 0 {
             self.change();
         }
@@ -462,8 +473,29 @@ impl<'a, K: Naming> Worker<'a, K> {
         let (phase, limits) = self
             .manager_link
             .meet(rt, alloc, node, ended, is_patient, &mut self.diary)?;
+        let is_trimmed = limits.is_some();
         self.apply_limits(alloc, node, limits, ended)?;
+        self.drop_untaken(node, is_trimmed);
         Ok(phase)
+    }
+
+    // Tells all senders once the process takes no message any more, whatever fails: it has ended, and its interval is in the recovery
+    // state of its round, so that no round takes its end back.
+    fn tell_end<R: Wait>(&mut self, rt: &R, core: &ProcCore, pass: &mut Pass<K>)
+        ensures { self.new.links ≡ self.old.links }
+    {
+        if !self.has_ended || self.is_over {
+            return;
+        }
+        let front = self.manager_link.read(rt, pass);
+        let is_reached = match front.vec.as_slice().get(self.manager_link.pid.index()) {
+            Some(interval) => *interval >= core.interval(),
+            None => false,
+        };
+        if is_reached && front.round == core.round() {
+            self.links.tell_end();
+            self.is_over = true;
+        }
     }
 
     // Takes a message, where the process waits for one. What comes to one that has ended is dropped: a round that rolls it back

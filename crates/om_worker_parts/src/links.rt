@@ -1,11 +1,12 @@
 //! The ends of inboxes that one process has.
 
-ghost use Rattle.std.specs.Prelude.{◌≡◌, ◌<◌, ◌≤◌, ◌+◌, ℕ, false, length, min, slice_index, slice_index_or, true};
+ghost use Rattle.std.specs.Prelude.{◌≡◌, ◌<◌, ◌≤◌, ◌+◌, ℕ, IfSome, false, length, min, slice_index, slice_index_or, true};
 ghost use Rattle.om_board.specs.Inboxes.{MatchTake};
 ghost use Rattle.om_interval.specs.declared.pid.TheConstants.{MAX_PROCESSES};
 ghost use Rattle.om_process.specs.Core.{cluster_size};
 ghost use Rattle.om_worker_parts.specs.Network.{ArePuts, AreTakes, IsNetwork};
 ghost use Rattle.om_worker_parts.specs.Wiring.{HasEnds};
+ghost use Rattle.om_worker_parts.specs.Dropping.{AreAllOrNone};
 
 use crate::network::Ends;
 use crate::received::Received;
@@ -13,7 +14,7 @@ use om_board::{
     Bell, CAPACITY, Inbox, PutAnswer, PutPass, SenderSet, SpinOutcome, TakePass, ring_all,
 };
 use om_format::Message;
-use om_interval::{MAX_PROCESSES, Pid};
+use om_interval::{Bounds, DepVec, MAX_PROCESSES, Pid};
 use om_process::ProcCore;
 use std::alloc::{AllocError, Global};
 use std::marker::Model;
@@ -306,6 +307,42 @@ impl<'a> Links<'a> {
         if let Some(received) = self.received.get(self.own.index()) {
             received.tell_all(core.got());
         }
+    }
+
+    /// Tells all senders that the process takes no message any more, whatever fails.
+    pub fn tell_end(&self) {
+        if let Some(received) = self.received.get(self.own.index()) {
+            received.end();
+        }
+    }
+
+    // Returns whether a process takes no message any more, as far as it has told.
+    fn is_over(&self, place: usize) -> bool {
+        match self.received.get(place) {
+            Some(received) => received.is_over(),
+            None => false,
+        }
+    }
+
+    /// Returns bounds below which all messages stand to each process that takes none any more, and nothing else; none where there is
+    /// no such process.
+    pub fn bounds_of_ended(&self) -> Option<Bounds>
+        ensures places { IfSome result (λ bounds. length bounds.got ≡ self.now.n) }
+        ensures whole { IfSome result (λ bounds. AreAllOrNone bounds.got) }
+        ensures outputs { IfSome result (λ bounds. bounds.released ≡ 0) }
+    {
+        let mut got = DepVec::zeros(self.n)?;
+        let mut is_any = false;
+        for to in 0..self.n {
+            if self.is_over(to) {
+                got.set(Pid::at(to), u32::MAX);
+                is_any = true;
+            }
+        }
+        if !is_any {
+            return None;
+        }
+        Some(Bounds { got, released: 0 })
     }
 
     /// Puts the messages that are kept and not put yet, as far as there is room for them.

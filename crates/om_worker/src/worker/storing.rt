@@ -5,6 +5,7 @@ ghost use Rattle.om_process.specs.Flights.{landed};
 ghost use Rattle.om_process.specs.Trims.{trimmed};
 ghost use Rattle.om_node.specs.Storing.{HasStored};
 ghost use Rattle.om_worker.specs.steps.Turning.{HasStoredBy, is_multiple_of};
+ghost use Rattle.om_worker.specs.steps.Dropping.{HasDropped};
 
 use super::{ALL_RECEIPTS, Worker};
 use om_board::Naming;
@@ -155,6 +156,25 @@ impl<'a, K: Naming> Worker<'a, K> {
             deposit,
         });
         Ok(())
+    }
+
+    // Drops the messages to processes that take none any more, where the process was trimmed. Of a run that is recorded they are
+    // kept: its record is played in a world, whose resends send all that is not received.
+    pub(super) fn drop_untaken<J: Series, S: Stable>(
+        &self,
+        node: &mut Node<'a, J, S>,
+        is_trimmed: bool,
+    )
+        requires { node.old.member.n ≡ K.cell.n }
+        ensures member { node.new.member ≡ node.old.member }
+        ensures dropped { HasDropped node.old.core node.new.core }
+    {
+        if !is_trimmed || self.diary.is_kept() {
+            return;
+        }
+        if let Some(bounds) = self.links.bounds_of_ended() {
+            node.trim(&bounds);
+        }
     }
 
     // Stores what is due there.

@@ -14,6 +14,10 @@ apply_limits-requires g c =
     let met = c.in_ok-phase.ensures in
     subst (λ (n : ℕ). IfSome c.in_ok-phase.limits (λ l. length l.bounds.got ≡ n)) (sym (ap (λ (m : Member). m.n) met.member ∙ c.requires.size)) met.limits
 
+pub drop_untaken-requires : goal.drop_untaken-requires
+drop_untaken-requires g c =
+    ap (λ (m : Member). m.n) (c.in_ok-apply_limits.ensures.member ∙ c.in_ok-standing.ensures.member) ∙ c.requires.size
+
 pub returns-clause-reported : goal.returns-clause-reported
 returns-clause-reported g c = inr (c.has_ended-ended.result, c.has_ended-ended.ensures, c.in_ok-phase.limits, c.meet.new.node.core, c.in_ok-phase.ensures.met)
 
