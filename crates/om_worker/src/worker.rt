@@ -69,8 +69,8 @@ pub(crate) struct Worker<'a, K: Naming> {
     is_over: bool,
     // How many turns the last one counts as beside itself.
     extra: u64,
-    ghost linked: { links.own ≡ manager_link.pid },
-    ghost many: { links.n ≡ K.cell.n },
+    ghost linked: { links.ends.own ≡ manager_link.pid },
+    ghost many: { links.ends.n ≡ K.cell.n },
 }
 
 // How far a process whose store is slow has handed over what it received, and its checkpoints.
@@ -119,7 +119,7 @@ impl<'a, K: Naming> Worker<'a, K> {
         alloc: Global,
         observers: Observers<'a>,
     ) -> Worker<'a, K>
-        requires { links.n ≡ K.cell.n }
+        requires { links.ends.n ≡ K.cell.n }
         ensures { result.links ≡ links.entry }
     {
         let own = links.own();
@@ -147,7 +147,7 @@ impl<'a, K: Naming> Worker<'a, K> {
 
     // Returns the process.
     pub(crate) fn pid(&self) -> Pid
-        ensures { result ≡ self.now.links.own }
+        ensures { result ≡ self.now.links.ends.own }
     {
         self.manager_link.pid
     }
@@ -172,7 +172,7 @@ impl<'a, K: Naming> Worker<'a, K> {
         found: Found,
     ) -> Result<(), WorkerFault>
         requires { K.OverClean → ⊥ }
-        ensures same { self.new.links ≡ self.old.links }
+        ensures same { self.new.links.ends ≡ self.old.links.ends }
         ensures past { OnOk result (self.new.past ≡ record { keeps = true; senders = found.senders.items; count = 0 }) }
         ensures kept { OnOk result (self.new.kept ≡ Some (record { outputs = length found.outputs.items; senders = found.kept })) }
     {
@@ -197,7 +197,7 @@ impl<'a, K: Naming> Worker<'a, K> {
     // Counts the process, which came up in this round, and wakes the others where it was the last. It is the last act of coming up,
     // but where a store is taken up: there the manager is told of it afterwards.
     pub(crate) fn arrive(&mut self, round: u32)
-        ensures { self.new.links ≡ self.old.links }
+        ensures { self.new.links.ends ≡ self.old.links.ends }
     {
         if self.barrier.arrive(round) {
             self.links.wake_all();
@@ -207,7 +207,7 @@ impl<'a, K: Naming> Worker<'a, K> {
     // Returns whether the process, which is up, waits for others to come up. A turn in which it does is one in which nothing
     // happens.
     fn waits_for_others<R: Wait + Clock>(&mut self, rt: &R) -> bool
-        ensures { self.new.links ≡ self.old.links }
+        ensures { self.new.links.ends ≡ self.old.links.ends }
     {
         if self.barrier.is_passed() {
             return false;
@@ -222,7 +222,7 @@ impl<'a, K: Naming> Worker<'a, K> {
 
     // Gives the passes of the process up, when it has ended, and what it did.
     pub(crate) fn into_ends(self) -> (Ends, Witness)
-        ensures { let l = self.entry.links in HasEnds K.cell.n l.lines l.own result.0 }
+        ensures { let l = self.entry.links.ends in HasEnds K.cell.n l.lines l.own result.0 }
     {
         let Worker { links, past, .. } = self;
         (links.into_ends(), past.into_witness())
@@ -235,7 +235,7 @@ impl<'a, K: Naming> Worker<'a, K> {
         alloc: Global,
         made: u64,
     ) -> Result<Option<Harvest<K>>, WorkerFault>
-        ensures own { IfOk result (λ r. IfSome r (λ h. h.own ≡ self.now.links.own)) }
+        ensures own { IfOk result (λ r. IfSome r (λ h. h.own ≡ self.now.links.ends.own)) }
         ensures many { IfOk result (λ r. IfSome r (λ h. length h.outputs.items ≡ made)) }
         ensures none { IfOk result (λ r. IfNone r (UnderLock K.cell.n (λ before after.
             HasReleasedAnother before.manager self.now.manager_link.pid made × (after ≡ before)))) }
@@ -245,7 +245,7 @@ impl<'a, K: Naming> Worker<'a, K> {
 
     // Notes that the process has ended, with so many instructions.
     pub(crate) fn end(&mut self, count: u64)
-        ensures { self.new.links ≡ self.old.links }
+        ensures { self.new.links.ends ≡ self.old.links.ends }
     {
         self.past.end(count);
     }
@@ -260,9 +260,9 @@ impl<'a, K: Naming> Worker<'a, K> {
         state: WorkerState<'a, J, S>,
         pass: Pass<K>,
     ) -> Result<(WorkerState<'a, J, S>, Pass<K>), WorkerFault>
-        requires process { IsProcessOf S.is_clean K.OverClean K.programs K.cell.n self.old.links.own (member_of state) }
+        requires process { IsProcessOf S.is_clean K.OverClean K.programs K.cell.n self.old.links.ends.own (member_of state) }
         requires landed { IsLanded state }
-        ensures same { self.new.links ≡ self.old.links }
+        ensures same { self.new.links.ends ≡ self.old.links.ends }
         ensures place { IfOk result (λ r. member_of r.0 ≡ member_of state.entry) }
         ensures landed { IfOk result (λ r. IsLanded r.0) }
         ensures turned { IfOk result (λ r. IsTurnOf K.cell.n self.old.manager_link.round state.entry r.0) }
@@ -287,9 +287,9 @@ impl<'a, K: Naming> Worker<'a, K> {
         state: WorkerState<'a, J, S>,
         pass: Pass<K>,
     ) -> Result<(WorkerState<'a, J, S>, Pass<K>), WorkerFault>
-        requires process { IsProcessOf S.is_clean K.OverClean K.programs K.cell.n self.old.links.own (member_of state) }
+        requires process { IsProcessOf S.is_clean K.OverClean K.programs K.cell.n self.old.links.ends.own (member_of state) }
         requires landed { IsLanded state }
-        ensures same { self.new.links ≡ self.old.links }
+        ensures same { self.new.links.ends ≡ self.old.links.ends }
         ensures place { IfOk result (λ r. member_of r.0 ≡ member_of state.entry) }
         ensures landed { IfOk result (λ r. IsLanded r.0) }
     {
@@ -335,8 +335,8 @@ impl<'a, K: Naming> Worker<'a, K> {
         node: Node<'a, J, S>,
         pass: Pass<K>,
     ) -> Result<(WorkerState<'a, J, S>, Pass<K>), WorkerFault>
-        requires { IsProcessOf S.is_clean K.OverClean K.programs K.cell.n self.old.links.own node.member }
-        ensures same { self.new.links ≡ self.old.links }
+        requires { IsProcessOf S.is_clean K.OverClean K.programs K.cell.n self.old.links.ends.own node.member }
+        ensures same { self.new.links.ends ≡ self.old.links.ends }
         ensures place { IfOk result (λ r. member_of r.0 ≡ node.entry.member) }
         ensures landed { IfOk result (λ r. IsLanded r.0) }
     {
@@ -365,8 +365,8 @@ impl<'a, K: Naming> Worker<'a, K> {
         alloc: Global,
         node: &mut Node<'a, J, S>,
     ) -> Result<TurnOutcome, WorkerFault>
-        requires { IsProcessOf S.is_clean K.OverClean K.programs K.cell.n self.old.links.own node.old.member }
-        ensures same { self.new.links ≡ self.old.links }
+        requires { IsProcessOf S.is_clean K.OverClean K.programs K.cell.n self.old.links.ends.own node.old.member }
+        ensures same { self.new.links.ends ≡ self.old.links.ends }
         ensures member { node.new.member ≡ node.old.member }
         ensures landed { IfOk result (λ turn_outcome. IsLandedAt turn_outcome node.new) }
     {
@@ -388,8 +388,8 @@ impl<'a, K: Naming> Worker<'a, K> {
         alloc: Global,
         node: &mut Node<'a, J, S>,
     ) -> Result<TurnOutcome, WorkerFault>
-        requires { IsProcessOf S.is_clean K.OverClean K.programs K.cell.n self.old.links.own node.old.member }
-        ensures same { self.new.links ≡ self.old.links }
+        requires { IsProcessOf S.is_clean K.OverClean K.programs K.cell.n self.old.links.ends.own node.old.member }
+        ensures same { self.new.links.ends ≡ self.old.links.ends }
         ensures member { node.new.member ≡ node.old.member }
     {
         let status = self.run(rt, alloc, node)?;
@@ -417,9 +417,9 @@ impl<'a, K: Naming> Worker<'a, K> {
         alloc: Global,
         node: &mut Node<'a, J, S>,
     ) -> Result<Status, WorkerFault>
-        requires own { node.old.member.own ≡ self.old.links.own }
+        requires own { node.old.member.own ≡ self.old.links.ends.own }
         requires size { node.old.member.n ≡ K.cell.n }
-        ensures same { self.new.links ≡ self.old.links }
+        ensures same { self.new.links.ends ≡ self.old.links.ends }
         ensures member { node.new.member ≡ node.old.member }
         ensures ran { IfOk result (λ status. HasRun node.old.core self.old.config.now.fuel status node.new.core.now) }
         ensures stored { IfOk result (λ status. IsEnd status → node.new.core.log ≡ []) }
@@ -456,8 +456,8 @@ impl<'a, K: Naming> Worker<'a, K> {
         status: Status,
         called: bool,
     ) -> Result<ManagerPhase, WorkerFault>
-        requires { IsProcessOf S.is_clean K.OverClean K.programs K.cell.n self.old.links.own node.old.member }
-        ensures same { self.new.links ≡ self.old.links }
+        requires { IsProcessOf S.is_clean K.OverClean K.programs K.cell.n self.old.links.ends.own node.old.member }
+        ensures same { self.new.links.ends ≡ self.old.links.ends }
         ensures member { node.new.member ≡ node.old.member }
         ensures reported { IfOk result (λ phase. HasNothingToSay self.old.manager_link.handed status node.old.core phase node.new.core
             ⊎ HasReported K.cell.n self.old.manager_link.pid self.old.manager_link.round status node.old.core phase) }
@@ -482,7 +482,7 @@ impl<'a, K: Naming> Worker<'a, K> {
     // Tells all senders once the process takes no message any more, whatever fails: it has ended, and its interval is in the recovery
     // state of its round, so that no round takes its end back.
     fn tell_end<R: Wait>(&mut self, rt: &R, core: &ProcCore, pass: &mut Pass<K>)
-        ensures { self.new.links ≡ self.old.links }
+        ensures { self.new.links.ends ≡ self.old.links.ends }
     {
         if !self.has_ended || self.is_over {
             return;
@@ -507,7 +507,7 @@ impl<'a, K: Naming> Worker<'a, K> {
         node: &mut Node<'a, J, S>,
         status: Status,
     ) -> Result<TurnOutcome, WorkerFault>
-        ensures same { self.new.links ≡ self.old.links }
+        ensures same { self.new.links.ends ≡ self.old.links.ends }
         ensures member { node.new.member ≡ node.old.member }
         ensures offered { OnOk result ((node.new.core ≡ node.old.core)
             ⊎ ((message : Message) × IsOffered node.old.core message node.new.core.now)) }
@@ -528,7 +528,7 @@ impl<'a, K: Naming> Worker<'a, K> {
 
     // Takes a message, or rests; what ends the rest is taken at once.
     fn take<R: Wait + Clock>(&mut self, rt: &R) -> Option<Taken>
-        ensures same { self.new.links ≡ self.old.links }
+        ensures same { self.new.links.ends ≡ self.old.links.ends }
     {
         let taken = self.links.take(rt);
         if taken.is_some() {
@@ -542,7 +542,7 @@ impl<'a, K: Naming> Worker<'a, K> {
 
     // Notes that something happens to the process: it is idle no longer, and what it keeps is not all resent.
     fn change(&mut self)
-        ensures same { self.new.links ≡ self.old.links }
+        ensures same { self.new.links.ends ≡ self.old.links.ends }
     {
         self.idle.end();
         self.resent = false;
@@ -556,7 +556,7 @@ impl<'a, K: Naming> Worker<'a, K> {
         node: &mut Node<'a, J, S>,
         taken: &Taken,
     ) -> Result<TurnOutcome, WorkerFault>
-        ensures same { self.new.links ≡ self.old.links }
+        ensures same { self.new.links.ends ≡ self.old.links.ends }
         ensures member { node.new.member ≡ node.old.member }
         ensures offered { OnOk result (IsOffered node.old.core taken.now node.new.core.now) }
     {

@@ -45,7 +45,7 @@ impl<'a, K: Naming> Worker<'a, K> {
         node: &mut Node<'a, J, S>,
         x: u32,
     ) -> Result<TurnOutcome, WorkerFault>
-        ensures same { self.new.links ≡ self.old.links }
+        ensures same { self.new.links.ends ≡ self.old.links.ends }
         ensures member { node.new.member ≡ node.old.member }
         ensures now { node.new.core.now ≡ node.old.core.now }
         ensures killed { Contains self.old.kills.items x → result ≡ Ok TurnOutcome.Failed }
@@ -71,7 +71,7 @@ impl<'a, K: Naming> Worker<'a, K> {
         node: &mut Node<'a, J, S>,
         x: u32,
     ) -> Result<(), WorkerFault>
-        ensures same { self.new.links ≡ self.old.links }
+        ensures same { self.new.links.ends ≡ self.old.links.ends }
         ensures member { node.new.member ≡ node.old.member }
         ensures now { node.new.core.now ≡ node.old.core.now }
         ensures stored { let w = self.old in OnOk result
@@ -92,7 +92,7 @@ impl<'a, K: Naming> Worker<'a, K> {
 
     // Returns whether the process is to fail in this interval, which is then done with.
     fn is_to_fail(&mut self, x: u32) -> bool
-        ensures same { self.new.links ≡ self.old.links }
+        ensures same { self.new.links.ends ≡ self.old.links.ends }
         ensures config { self.new.config ≡ self.old.config }
         ensures kept { self.new.kept ≡ self.old.kept }
         ensures named { IsTrue result ↔ Contains self.old.kills.items x }
@@ -115,7 +115,7 @@ impl<'a, K: Naming> Worker<'a, K> {
         ended: bool,
     ) -> Result<(), WorkerFault>
         requires { IfSome limits (λ l. length l.bounds.got ≡ node.old.member.n) }
-        ensures same { self.new.links ≡ self.old.links }
+        ensures same { self.new.links.ends ≡ self.old.links.ends }
         ensures member { node.new.member ≡ node.old.member }
         ensures trimmed { OnOk result (IfSome limits (λ l. node.new.core.now
             ≡ trimmed (l.bounds.got ++ l.bounds.released ∷ []) node.old.core.now)) }
@@ -138,7 +138,7 @@ impl<'a, K: Naming> Worker<'a, K> {
         limits: &Limits,
     ) -> Result<(), WorkerFault>
         requires { length limits.now.bounds.got ≡ node.old.member.n }
-        ensures same { self.new.links ≡ self.old.links }
+        ensures same { self.new.links.ends ≡ self.old.links.ends }
         ensures member { node.new.member ≡ node.old.member }
         ensures due { OnOk result (IfSome self.new.due (λ due. due.checkpoint ≡ limits.now.checkpoint)) }
         ensures owed { OnOk result (IsSome self.new.due) }
@@ -183,7 +183,7 @@ impl<'a, K: Naming> Worker<'a, K> {
         alloc: Global,
         node: &mut Node<'a, J, S>,
     ) -> Result<(), WorkerFault>
-        ensures same { self.new.links ≡ self.old.links }
+        ensures same { self.new.links.ends ≡ self.old.links.ends }
         ensures member { node.new.member ≡ node.old.member }
         ensures now { node.new.core.now ≡ node.old.core.now }
         ensures settled { OnOk result (self.new.due ≡ None) }
@@ -202,7 +202,7 @@ impl<'a, K: Naming> Worker<'a, K> {
         k: usize,
         is_checkpoint_due: bool,
     ) -> Result<(), WorkerFault>
-        ensures same { self.new.links ≡ self.old.links }
+        ensures same { self.new.links.ends ≡ self.old.links.ends }
         ensures member { node.new.member ≡ node.old.member }
         ensures now { node.new.core.now ≡ node.old.core.now }
         ensures stored { OnOk result (HasStored k is_checkpoint_due node.old.core node.new.core) }
@@ -228,7 +228,7 @@ impl<'a, K: Naming> Worker<'a, K> {
         alloc: Global,
         node: &mut Node<'a, J, S>,
     ) -> Result<(), WorkerFault>
-        ensures same { self.new.links ≡ self.old.links }
+        ensures same { self.new.links.ends ≡ self.old.links.ends }
         ensures member { node.new.member ≡ node.old.member }
         ensures now { node.new.core.now ≡ node.old.core.now }
     {
@@ -256,7 +256,7 @@ impl<'a, K: Naming> Worker<'a, K> {
         is_log_due: bool,
         is_checkpoint_due: bool,
     ) -> Result<(), WorkerFault>
-        ensures same { self.new.links ≡ self.old.links }
+        ensures same { self.new.links.ends ≡ self.old.links.ends }
         ensures member { node.new.member ≡ node.old.member }
         ensures now { node.new.core.now ≡ node.old.core.now }
     {
@@ -284,7 +284,7 @@ impl<'a, K: Naming> Worker<'a, K> {
         rt: &R,
         node: &mut Node<'a, J, S>,
     ) -> Result<(), WorkerFault>
-        ensures same { self.new.links ≡ self.old.links }
+        ensures same { self.new.links.ends ≡ self.old.links.ends }
         ensures member { node.new.member ≡ node.old.member }
     {
         if !self.is_away {
@@ -302,7 +302,7 @@ impl<'a, K: Naming> Worker<'a, K> {
         rt: &R,
         node: &mut Node<'a, J, S>,
     ) -> Result<(), WorkerFault>
-        ensures same { self.new.links ≡ self.old.links }
+        ensures same { self.new.links.ends ≡ self.old.links.ends }
         ensures member { node.new.member ≡ node.old.member }
         ensures landed { OnOk result (node.new.away ≡ false) }
         ensures now { node.new.core.now ≡ node.old.core.now }
@@ -322,7 +322,7 @@ impl<'a, K: Naming> Worker<'a, K> {
         node: &mut Node<'a, J, S>,
         landing: Landing<J, S>,
     ) -> Result<(), WorkerFault>
-        ensures same { self.new.links ≡ self.old.links }
+        ensures same { self.new.links.ends ≡ self.old.links.ends }
         ensures member { node.new.member ≡ node.old.member }
         ensures here { OnOk result (node.new.away ≡ false) }
         ensures now { node.new.core.now ≡ node.old.core.now }

@@ -7,7 +7,7 @@ use Rattle.om_worker_parts.proofs.ActLemmas.{still_process}
 use Rattle.om_worker.proofs.worker.Worker.report.Goals as goal
 
 pub meet-requires : goal.meet-requires
-meet-requires g c = let w = c.args.self.now in still_process _ _ _ _ w.links.own w.manager_link.pid c.args.node.now.member c.args.node.now.member refl (sym w.linked) c.requires
+meet-requires g c = let w = c.args.self.now in still_process _ _ _ _ w.links.ends.own w.manager_link.pid c.args.node.now.member c.args.node.now.member refl (sym w.linked) c.requires
 
 pub apply_limits-requires : goal.apply_limits-requires
 apply_limits-requires g c =
