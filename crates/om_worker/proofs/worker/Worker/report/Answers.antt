@@ -16,7 +16,7 @@ apply_limits-requires g c =
 
 pub drop_untaken-requires : goal.drop_untaken-requires
 drop_untaken-requires g c =
-    ap (λ (m : Member). m.n) (c.in_ok-apply_limits.ensures.member ∙ c.in_ok-standing.ensures.member) ∙ c.requires.size
+    ap (λ (m : Member). m.n) (c.in_ok-apply_limits.ensures.member ∙ c.in_ok-phase.ensures.member) ∙ c.requires.size
 
 pub returns-clause-reported : goal.returns-clause-reported
 returns-clause-reported g c = inr (c.has_ended-ended.result, c.has_ended-ended.ensures, c.in_ok-phase.limits, c.meet.new.node.core, c.in_ok-phase.ensures.met)
