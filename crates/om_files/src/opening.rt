@@ -12,13 +12,12 @@ use sqlite_pool::probe_blank;
 use sqlite_store::{OpenError, Unopened};
 use std::alloc::Global;
 use std::io;
-use std::io::ErrorKind;
 
 /// The bytes of a page of a database that is made here: 1 KiB. A commit digests, copies and writes whole pages, and the receipts of
 /// one take some hundred bytes.
 const PAGE_BYTES: usize = 1024;
 
-/// The bytes of the head of a frame. A log counts as one from the length of its own head and of one of these on.
+/// The bytes of the head of a frame of a log.
 const FRAME_HEAD: usize = 24;
 
 // Opens the database of these files, with the pages that it has. Where there is none yet, or one that an open left half made, it
@@ -88,24 +87,19 @@ fn laid<D: Disk + Drop>(
     opened_whole(alloc, files, options)
 }
 
-// Lays a database of one page and its log, which has no commit, into files that hold nothing. As long as the file has nothing the
-// log stands for nothing, and as long as its first byte is 0 it is half made, so a crash leaves none, or that one.
+// Lays a database of one page and its log, which has that page in a commit, into files that hold nothing. As long as the file has
+// nothing the log stands for nothing, and from then on it has what the file may lack; so a crash leaves none, or that one.
 fn lay<D: Disk>(files: &mut Files<D>, log: &[u8], page: &[u8]) -> io::Result<()>
     requires log { IsTrue (D.Disk.is_usable files.old.log) }
     requires db { IsTrue (D.Disk.is_usable files.old.db) }
     ensures log { OnOk result (IsTrue (D.Disk.is_usable files.new.log)) }
     ensures db { OnOk result (IsTrue (D.Disk.is_usable files.new.db)) }
 {
-    if page.is_empty() {
-        return Err(ErrorKind::InvalidData.into());
-    }
-    let (first, rest) = page.split_at(1);
     files.log.write_at(0, log)?;
+    // Behind the commit stands no other.
     files.log.write_at(log.len(), &[0; FRAME_HEAD])?;
     files.log.sync()?;
-    files.db.write_at(1, rest)?;
-    files.db.sync()?;
-    files.db.write_at(0, first)?;
+    files.db.write_at(0, page)?;
     files.db.sync()
 }
 
