@@ -238,9 +238,9 @@ told_report Tells is_clean over_clean programs n images lines parts harvests sta
                   whole_always is_clean programs images parts.statuses.items few parts.stores.items same are.stores are.whole (clean over) p program status low.0 at_program there low.2,
                   subst (λ k. length low.0.items ≤ k) (sym copied) less,
                 )
-            | inr past ↦ let l = past.0 in absurd (omega arith)
+            | inr past ↦ let l = past.0 in absurd (omega (arith, n_is))
           ]
-          | inr past ↦ let l = past.0 in absurd (omega arith)
+          | inr past ↦ let l = past.0 in absurd (omega (arith, of_few))
         ];
     others = λ p past. none_of (of_process p is.told) (told_to_end Tells over_clean programs n front.vec start lanes now is ends p ∙ zero_past p past);
   },
@@ -263,7 +263,7 @@ told_report Tells is_clean over_clean programs n images lines parts harvests sta
 
     zero_past : (p : ℕ) → length programs ≤ p → copied_of (slice_get lanes p) ≡ 0
     zero_past p past = elim (slice_get_cases lanes p).1 [
-      | inl lane ↦ let lt = lane.1 in absurd (omega arith)
+      | inl lane ↦ let lt = lane.1 in absurd (omega (arith, n_is))
       | inr none ↦ ap copied_of none.1
     ]
 

@@ -76,17 +76,18 @@ fn report_of<K: Naming, R: Wait, G: Gate, O: Opener<R>>(
 }
 
 fn run_named<
+    'x,
     K: Naming + Send + Sync,
     R: Threads + Wait + Clock + Sync,
     G: Gate + Sync,
     O: Opener<R> + Sync,
     S: Scribe,
 >(
-    rt: &R,
+    rt: &'x R,
     alloc: Global,
-    config: &Config,
-    gate: &G,
-    opener: &O,
+    config: &'x Config,
+    gate: &'x G,
+    opener: &'x O,
     scribe: S,
     blank: Blank,
 ) -> (Result<Report, RunFault>, S)
@@ -104,6 +105,10 @@ fn run_named<
         return (Err(RunFault::Memory), scribe);
     };
     let recorder = Recorder::new(alloc);
+    let recording = Recording {
+        recorder: &recorder,
+        scribe,
+    };
     let cluster = Cluster {
         rt,
         alloc,
@@ -122,10 +127,6 @@ fn run_named<
         inboxes: &ground.inboxes,
         bells: &ground.bells,
         received: &ground.received,
-    };
-    let recording = Recording {
-        recorder: &recorder,
-        scribe,
     };
     let (parts, mut recording) = run_workers(&cluster, ends, passes, recording);
     recording.give(rt);
