@@ -38,14 +38,15 @@ impl Frames {
 
     // Drops those messages of the sender to the receiver, in this incarnation, that have lower numbers: they are not given any more.
     fn forget(&mut self, letter: Letter, kept: u32) {
-        let Letter { from, to, inc, .. } = letter;
         for _ in 0..self.numbers.len() {
-            match self.oldest(letter) {
-                Some(ssn) if ssn < kept => {
-                    self.numbers.remove(&(from, to, inc, ssn));
-                }
-                _ => return,
+            let Some(ssn) = self.oldest(letter) else {
+                return;
+            };
+            if ssn >= kept {
+                return;
             }
+            self.numbers
+                .remove(&(letter.from, letter.to, letter.inc, ssn));
         }
     }
 
@@ -165,17 +166,17 @@ impl Frames {
         &mut self,
         text: &mut String,
         programs: &Programs,
-        act: Act,
+        act: &Act,
         recovery: Option<&DepVec>,
     ) -> Result<(), AllocError> {
-        push_comment(text, programs, act, recovery)?;
-        if let Act::Send { letter, kept } = act {
+        push_comment(text, programs, *act, recovery)?;
+        if let Act::Send { letter, kept } = *act {
             self.make(letter, kept)?;
         }
-        match self.event_of(act) {
-            Some(event) => push_line(text, event),
-            None => Ok(()),
+        if let Some(event) = self.event_of(*act) {
+            push_line(text, event)?;
         }
+        Ok(())
     }
 
     // Returns the events of a part of a record, which follows on the one before: a line for each, and comments between them.
@@ -188,7 +189,7 @@ impl Frames {
         let mut text = String::new(alloc);
         let mut finished: usize = 0;
         for act in &part.acts {
-            self.push_act(&mut text, programs, *act, part.recoveries.get(finished))?;
+            self.push_act(&mut text, programs, act, part.recoveries.get(finished))?;
             if matches!(act, Act::Finish { .. }) {
                 finished = finished.saturating_add(1);
             }
