@@ -26,12 +26,12 @@ impl Frames {
         }
     }
 
-    // Returns the least number of a message of the same sender, receiver and incarnation.
-    fn oldest(&self, letter: Letter) -> Option<u32> {
+    // Returns the frame of the least number of the same sender, receiver and incarnation.
+    fn oldest(&self, letter: Letter) -> Option<(Pid, Pid, u32, u32)> {
         let Letter { from, to, inc, .. } = letter;
         let (found, _) = self.numbers.range((from, to, inc, 0)..).next()?;
         if found.0 == from && found.1 == to && found.2 == inc {
-            return Some(found.3);
+            return Some((from, to, inc, found.3));
         }
         None
     }
@@ -39,14 +39,13 @@ impl Frames {
     // Drops those messages of the sender to the receiver, in this incarnation, that have lower numbers: they are not given any more.
     fn forget(&mut self, letter: Letter, kept: u32) {
         for _ in 0..self.numbers.len() {
-            let Some(ssn) = self.oldest(letter) else {
+            let Some(oldest) = self.oldest(letter) else {
                 return;
             };
-            if ssn >= kept {
+            if oldest.3 >= kept {
                 return;
             }
-            self.numbers
-                .remove(&(letter.from, letter.to, letter.inc, ssn));
+            self.numbers.remove(&oldest);
         }
     }
 
