@@ -26,9 +26,8 @@ impl Frames {
         }
     }
 
-    // Returns the frame of the least number of the same sender, receiver and incarnation.
-    fn oldest(&self, letter: Letter) -> Option<(Pid, Pid, u32, u32)> {
-        let Letter { from, to, inc, .. } = letter;
+    // Returns the frame of the least number of this sender, receiver and incarnation.
+    fn oldest(&self, from: Pid, to: Pid, inc: u32) -> Option<(Pid, Pid, u32, u32)> {
         let (found, _) = self.numbers.range((from, to, inc, 0)..).next()?;
         if found.0 == from && found.1 == to && found.2 == inc {
             return Some((from, to, inc, found.3));
@@ -37,9 +36,9 @@ impl Frames {
     }
 
     // Drops those messages of the sender to the receiver, in this incarnation, that have lower numbers: they are not given any more.
-    fn forget(&mut self, letter: Letter, kept: u32) {
+    fn forget(&mut self, from: Pid, to: Pid, inc: u32, kept: u32) {
         for _ in 0..self.numbers.len() {
-            let Some(oldest) = self.oldest(letter) else {
+            let Some(oldest) = self.oldest(from, to, inc) else {
                 return;
             };
             if oldest.3 >= kept {
@@ -52,7 +51,7 @@ impl Frames {
     // Numbers one more frame, and drops what is below `kept`. If there was one of the same message and incarnation, this one stands for both.
     fn make(&mut self, letter: Letter, kept: u32) -> Result<(), AllocError> {
         let Letter { from, to, inc, ssn } = letter;
-        self.forget(letter, kept);
+        self.forget(from, to, inc, kept);
         self.numbers.insert((from, to, inc, ssn), self.made)?;
         self.made = self.made.saturating_add(1);
         Ok(())
