@@ -6,14 +6,13 @@
 //! - `clashing`: whether a file that is to be written beside them is one that the run has, or a database
 //! - `options`: how the database of one is opened
 //! - `settling`: each store in its one file, behind a run
-//! - `noting`: what the system answered where one of them failed; `noted_pair`: a file and its log, opened so
+//! - `noting`: what the system answered where one of them failed
 #![tactic(auto)]
 
 mod clashing;
 mod files_before;
 mod identity;
 mod names;
-mod noted_pair;
 mod noting;
 mod options;
 mod places;
@@ -23,7 +22,6 @@ pub use clashing::{Clash, clash_with_databases, clash_with_streams, clashes_with
 pub use files_before::FilesBefore;
 pub use identity::Identity;
 pub use names::{is_written, log_of, store_of};
-pub use noted_pair::open_noted;
 pub use noting::{Note, NotedFile, Notes};
 pub use options::{CACHE_PAGES, connection_options};
 pub use places::{PlaceError, Places};
