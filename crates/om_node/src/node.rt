@@ -313,7 +313,7 @@ impl<'a, J: Series, S: Ledger> Node<'a, J, S> {
         ensures stored { OnOk result (HasStored k is_checkpoint_due self.old.core self.new.core) }
         ensures refused { OnErr result (self.new.core ≡ self.old.core) }
     {
-        // The interval tells that those of the receipts are numbers of intervals.
+        // The process's interval has 32 bits, so those of its receipts, which are not above it, have 32 bits too.
         let _ = self.core.interval();
         let flight = self.core.hand_over(alloc, k, is_checkpoint_due)?;
         let Hold::Here(store) = &mut self.hold else {
@@ -338,7 +338,7 @@ impl<'a, J: Series, S: Ledger> Node<'a, J, S> {
         ensures carries { IfOk result (λ transaction. Carries k is_checkpoint_due self.old.core transaction.flight) }
         ensures due { IfOk result (λ transaction. transaction.due ≡ due) }
     {
-        // The interval tells that those of the receipts are numbers of intervals.
+        // The process's interval has 32 bits, so those of its receipts, which are not above it, have 32 bits too.
         let _ = self.core.interval();
         let flight = self.core.hand_over(alloc, k, is_checkpoint_due)?;
         let transaction = Transaction { flight, due };

@@ -62,7 +62,7 @@ fn add_messages(
     Ok(())
 }
 
-// Adds those to one process from a number on, and says from which on there are none.
+// Adds an act for each message that the process keeps for another from the number `next` on, and returns the number behind the last.
 fn add_messages_to(
     acts: &mut Vec<Act>,
     own: Pid,
@@ -175,7 +175,7 @@ impl<'a> Diary<'a> {
         recorder.enter(rt, &acts)
     }
 
-    /// Tells how the process answered to a message. That one is there already is not told.
+    /// Tells how the process answered to a message, but not of one that it had received before.
     pub fn gave<R: Wait>(
         &mut self,
         rt: &R,

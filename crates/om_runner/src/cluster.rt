@@ -61,8 +61,8 @@ pub(crate) fn run_workers<
     }
 }
 
-// Returns how all ended, their outputs and their stores, once the inboxes are settled; what each process did; and the ends by which
-// each takes.
+// Returns the statuses, the outputs and the stores of all processes, once the inboxes are settled; what each process did; and the ends of
+// inboxes by which each takes messages.
 pub(crate) fn settled<K: Naming, R: Wait, G, O: Opener<R>>(
     cluster: &Cluster<'_, K, R, G, O>,
     parts: Parts<K, O::Store>,
@@ -92,7 +92,7 @@ pub(crate) fn settled<K: Naming, R: Wait, G, O: Opener<R>>(
 }
 
 // Settles the inboxes, and makes the report of what the workers brought back and of the last front. The stores stand beside it,
-// what each process did, and the ends by which each took.
+// what each process did, and the ends of inboxes by which each took messages.
 pub(crate) fn close<K: Naming, R: Wait, G: Gate, O: Opener<R>>(
     cluster: &Cluster<'_, K, R, G, O>,
     parts: Parts<K, O::Store>,

@@ -177,7 +177,7 @@ impl<'a, K: Naming> Worker<'a, K> {
         }
     }
 
-    // Stores what is due there.
+    // Stores what the store of the process has to hold beside its records, where something is due.
     fn store_due<J: Series, S: Ledger>(
         &mut self,
         alloc: Global,
