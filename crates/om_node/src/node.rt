@@ -30,7 +30,7 @@ use om_format::Message;
 use om_interval::{Bounds, Pid, Starts, Verdict};
 use om_manager::{OutputError, RecordError};
 use om_member::ManagerAccess;
-use om_process::{Accept, Down, Flight, Image, ProcCore, Ran, StartFault, Status};
+use om_process::{Accept, Down, Flight, Image, ProcCore, RunEnd, StartFault, Status};
 use om_stable::{Ledger, NewCheckpoint, Stable, StoreError, WriteBatch};
 use om_tickets::{Series, Ticket};
 use std::alloc::{AllocError, Global};
@@ -157,7 +157,7 @@ impl<'a, J: Series, S: Stable> Node<'a, J, S> {
     }
 
     /// Runs at most `fuel` instructions. Refused where memory ran out.
-    pub fn run(&mut self, alloc: Global, fuel: u64) -> Result<Ran, WorkerFault>
+    pub fn run(&mut self, alloc: Global, fuel: u64) -> Result<RunEnd, WorkerFault>
         ensures member { self.new.member ≡ self.old.member }
         ensures ran { IfOk result (λ ran. RunsTo self.old.core fuel ran.steps ran.status self.new.core) }
     {

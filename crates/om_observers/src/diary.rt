@@ -11,7 +11,7 @@ use om_board::Front;
 use om_format::Message;
 use om_interval::{MAX_PROCESSES, Pid, Verdict};
 use om_manager::Manager;
-use om_process::{Accept, ProcCore, Ran, Status};
+use om_process::{Accept, ProcCore, RunEnd, Status};
 use std::alloc::{AllocError, Global};
 use std::sync::Wait;
 
@@ -153,7 +153,7 @@ impl<'a> Diary<'a> {
     }
 
     /// Tells that the process ran, before others can see what it sent; where it sent nothing and goes on, it is told later.
-    pub fn ran<R: Wait>(&mut self, rt: &R, core: &ProcCore, ran: Ran) -> Result<(), AllocError> {
+    pub fn ran<R: Wait>(&mut self, rt: &R, core: &ProcCore, ran: RunEnd) -> Result<(), AllocError> {
         self.refused = self.refused.saturating_add(ran.refused);
         let Some(recorder) = self.recorder else {
             return Ok(());
