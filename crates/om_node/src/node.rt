@@ -226,6 +226,7 @@ impl<'a, J: Series, S: Stable> Node<'a, J, S> {
     pub fn trim(&mut self, bounds: &Bounds)
         requires { length bounds.now.got ≡ self.old.member.n }
         ensures member { self.new.member ≡ self.old.member }
+        ensures away { self.new.away ≡ self.old.away }
         ensures core { self.new.core
             ≡ with_now self.old.core (trimmed (bounds.now.got ++ bounds.now.released ∷ []) self.old.core.now) }
     {

@@ -38,15 +38,17 @@ fn leave<'a, K: Naming, J: Series, S: Stable, R: Wait>(
     rt: &R,
     alloc: Global,
     worker: &mut Worker<'a, K>,
-    node: Node<'a, J, S>,
+    mut node: Node<'a, J, S>,
     pass: Pass<K>,
 ) -> Result<AfterTurn<'a, K, J, S>, RunFault>
     requires own { node.member.own ≡ worker.old.links.ends.own }
+    requires size { node.member.n ≡ K.cell.n }
     requires landed { node.away ≡ false }
     ensures same { worker.new.links.ends ≡ worker.old.links.ends }
     ensures turned { IfOk result (λ t. IsTurned S.is_clean node.entry.member t) }
     ensures fault { IfErr result (IsFaultBy worker.old.links.ends.own) }
 {
+    worker.drop_released(rt, &mut node);
     let harvest = match worker.harvest(rt, alloc, node.core().made()) {
         Ok(Some(harvest)) => harvest,
         Ok(None) => return Ok(AfterTurn::On(WorkerState::Up(node), pass)),

@@ -9,6 +9,7 @@ ghost use Rattle.om_worker.specs.steps.Dropping.{HasDropped};
 
 use super::{ALL_RECEIPTS, Worker};
 use om_board::Naming;
+use om_interval::{Bounds, DepVec};
 use om_node::{Deposit, Due, Landing, Limits, Node, WorkerFault};
 use om_stable::{Ledger, Stable};
 use om_tickets::Series;
@@ -175,6 +176,27 @@ impl<'a, K: Naming> Worker<'a, K> {
         if let Some(bounds) = self.links.bounds_of_ended() {
             node.trim(&bounds);
         }
+    }
+
+    // Drops the outputs of the process that are released, before they are copied: else each would stand in memory three times. Of a run
+    // that is recorded they are kept, since its record has no event for it.
+    pub(crate) fn drop_released<J: Series, S: Stable, R: Wait>(
+        &self,
+        rt: &R,
+        node: &mut Node<'a, J, S>,
+    )
+        requires { node.old.member.n ≡ K.cell.n }
+        ensures member { node.new.member ≡ node.old.member }
+        ensures away { node.new.away ≡ node.old.away }
+    {
+        if self.diary.is_kept() {
+            return;
+        }
+        let Some(got) = DepVec::zeros(self.n()) else {
+            return;
+        };
+        let released = self.manager_link.released(rt);
+        node.trim(&Bounds { got, released });
     }
 
     // Stores what the store of the process has to hold beside its records, where something is due.
