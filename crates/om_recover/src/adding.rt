@@ -66,6 +66,7 @@ fn add_row(
     ensures added { (before : Rows) → AreAdded (length state.now) before index.old row.now.pid state.now fresh.old
         → AreAdded (length state.now) before index.new row.now.pid state.now fresh.new }
 {
+    let x = row.interval;
     if let Some(answer) = index.answer(state.n(), row) {
         return match answer {
             Ok(_) => Ok(()),
@@ -79,9 +80,9 @@ fn add_row(
     if !is_new {
         return Ok(());
     }
-    if row.interval <= state.get(row.pid) {
+    if x <= state.get(row.pid) {
         return Ok(());
     }
-    *fresh = Some(Fresh::with(*fresh, row.interval));
+    *fresh = Some(Fresh::with(*fresh, x));
     Ok(())
 }

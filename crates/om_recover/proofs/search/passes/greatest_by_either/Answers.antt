@@ -14,7 +14,7 @@ returns-then-low-high-clause-counted g c =
     c.if-low-high.true c.greatest_from.ensures.counted)
 
 pub returns-in-None-clause-counted : goal.returns-in-None-clause-counted
-returns-in-None-clause-counted g c = from_low _ c.climb.ensures.counted c.in-None.ensures.climbed c.greatest_from-2.ensures.counted
+returns-in-None-clause-counted g c = from_low _ c.climb.ensures.counted c.in-None.ensures.climbed c.greatest_from-in-None.ensures.counted
 
 pub highest_from-requires-clause-lawful : goal.highest_from-requires-clause-lawful
 highest_from-requires-clause-lawful g c = subst (λ n. IsLawful n (g.S.Shelf.rows c.args.shelf.now)) (sym c.in-Some.ensures.climbed.recoverable.places) c.requires.lawful
