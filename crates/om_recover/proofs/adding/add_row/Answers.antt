@@ -25,7 +25,7 @@ pub returns-then-x-get-clause-added : goal.returns-then-x-get-clause-added
 returns-then-x-get-clause-added c = λ before so_far.
     let new : IsNew (length c.args.state.now) c.args.index.now c.args.row.now = rw (← c.n.ensures.places) c.in_default.ensures.answer in
     let numbered : c.args.row.now.interval < 2 ^ 32 = omega arith in
-    added_quiet _ _ _ _ _ _ _ so_far new numbered c.in-Ok-add.ensures.ok (quiet_below _ _ _ _ _ so_far new (omega (arith, c.if-x-get.true, c.get.ensures)))
+    added_quiet _ _ _ _ _ _ _ so_far new numbered c.in-Ok-add.ensures.ok (quiet_below _ _ _ _ _ _ so_far new (omega (arith, c.if-x-get.true, c.get.ensures)))
 
 pub returns-clause-answer : goal.returns-clause-answer
 returns-clause-answer c =
