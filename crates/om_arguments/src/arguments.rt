@@ -191,11 +191,18 @@ fn refusal_of(alloc: Global, subcommand: Subcommand, mistake: Mistake<'_>) -> Er
 
 // Makes the text of a mistake, with the usage of its subcommand.
 fn told(alloc: Global, subcommand: Subcommand, mistake: Mistake<'_>) -> Result<Error, AllocError> {
+    let what = mistake.to_string(alloc)?;
+    let mut command = named_whole(alloc, subcommand)?;
+    let error = command.error(ErrorKind::ValueValidation, what.as_str());
+    drop(command);
+    error
+}
+
+// Makes the command of a subcommand, whose usage names the program too.
+fn named_whole<'a>(alloc: Global, subcommand: Subcommand) -> Result<Command<'a>, AllocError> {
     let name = name_of(subcommand);
     let bin_name = format!(in alloc; "omlog {name}")?;
-    let mut command = command_of(alloc, subcommand)?.bin_name(bin_name.as_str())?;
-    let what = mistake.to_string(alloc)?;
-    command.error(ErrorKind::ValueValidation, what.as_str())
+    command_of(alloc, subcommand)?.bin_name(bin_name.as_str())
 }
 
 // Makes the request of a subcommand, where what it is given for a number is one.

@@ -1,12 +1,12 @@
 //! The subcommands as a command line has them: their names, helps and options.
 
 use crate::arguments::Subcommand;
-use crate::building::{with_arg, with_command};
-use crate::debug_request::debug_command;
-use crate::draw_request::draw_command;
-use crate::explore_request::explore_command;
-use crate::look_requests::{replay_command, show_command};
-use clap::{Arg, ArgAction, Command};
+use crate::building::{ArgumentText, CommandText, FLAG, OPTION, WORD, command_by};
+use crate::debug_request::DEBUG_COMMAND;
+use crate::draw_request::DRAW_COMMAND;
+use crate::explore_request::EXPLORE_COMMAND;
+use crate::look_requests::{REPLAY_COMMAND, SHOW_COMMAND};
+use clap::Command;
 use std::alloc::{AllocError, Global};
 
 /// What `omlog --help` tells of all subcommands, behind their list; `-h` leaves it out, as it does with the others.
@@ -337,263 +337,243 @@ pub(crate) const INPUT: &str = "INPUT";
 // The version of the commands, their texts and their formats.
 const VERSION: &str = "1.0";
 
+// The subcommands, in the order of the help.
+const SUBCOMMANDS: &[Subcommand] = &[
+    Subcommand::Decode,
+    Subcommand::Image,
+    Subcommand::Frontier,
+    Subcommand::Sim,
+    Subcommand::Draw,
+    Subcommand::Run,
+    Subcommand::Explore,
+    Subcommand::Debug,
+    Subcommand::Replay,
+    Subcommand::Show,
+];
+
+const DECODE_COMMAND: CommandText = CommandText {
+    name: DECODE,
+    about: "The texts of the instructions that words of RV32I stand for",
+    help: DECODE_HELP,
+    usage: None,
+    arguments: &[
+        ArgumentText {
+            name: M,
+            help: "Read the instructions of RV32M too",
+            ..FLAG
+        },
+        INPUT_FILE,
+        VERBOSE_FLAG,
+    ],
+};
+
+const IMAGE_COMMAND: CommandText = CommandText {
+    name: IMAGE,
+    about: "The program line of a raw image",
+    help: IMAGE_HELP,
+    usage: None,
+    arguments: &[
+        ArgumentText {
+            name: M,
+            help: "The program may use RV32M",
+            ..FLAG
+        },
+        ArgumentText {
+            name: NAME,
+            help: "The name of the program",
+            values: &[NAME],
+            is_required: true,
+            ..WORD
+        },
+        ArgumentText {
+            name: SIZE,
+            help: "The bytes of its memory, 4 to 65536",
+            values: &[SIZE],
+            is_required: true,
+            ..WORD
+        },
+        VERBOSE_FLAG,
+    ],
+};
+
+const FRONTIER_COMMAND: CommandText = CommandText {
+    name: FRONTIER,
+    about: "The greatest recoverable state after each note of a record script",
+    help: FRONTIER_HELP,
+    usage: None,
+    arguments: &[INPUT_FILE, VERBOSE_FLAG],
+};
+
+const SIM_COMMAND: CommandText = CommandText {
+    name: SIM,
+    about: "Logged processes that are played event by event",
+    help: SIM_HELP,
+    usage: None,
+    arguments: &[TEXT_FLAG, INPUT_FILE, VERBOSE_FLAG],
+};
+
+const RUN_COMMAND: CommandText = CommandText {
+    name: RUN,
+    about: "Logged processes that run in threads, fail and recover",
+    help: RUN_HELP,
+    usage: None,
+    arguments: &[
+        TURNS_OPTION,
+        STORE_OPTION,
+        RESUME_FLAG,
+        CHECK_FLAG,
+        WITNESS_OPTION,
+        RECORD_OPTION,
+        FOLLOW_FLAG,
+        KILLS_OPTION,
+        SEED_OPTION,
+        TEXT_FLAG,
+        RAW_OPTION,
+        STRICT_FLAG,
+        INPUT_FILE,
+        VERBOSE_FLAG,
+    ],
+};
+
+pub(crate) const INPUT_FILE: ArgumentText = ArgumentText {
+    name: INPUT,
+    help: "What is read, in place of standard input; - is standard input",
+    values: &["FILE"],
+    ..WORD
+};
+
+pub(crate) const VERBOSE_FLAG: ArgumentText = ArgumentText {
+    name: VERBOSE,
+    help: "Say more on standard error: what was refused and why; of a run, who waited",
+    ..FLAG
+};
+
+const TURNS_OPTION: ArgumentText = ArgumentText {
+    name: TURNS,
+    help: "The most turns of each process, a number of 64 bits [default: 50000000]",
+    values: &["K"],
+    ..OPTION
+};
+
+const STORE_OPTION: ArgumentText = ArgumentText {
+    name: STORE,
+    help: "Keep the stores in files",
+    values: &["PREFIX"],
+    ..OPTION
+};
+
+const RESUME_FLAG: ArgumentText = ArgumentText {
+    name: RESUME,
+    help: "Go on from the stores where there are any",
+    needs: &[STORE],
+    excludes: &[RECORD],
+    ..FLAG
+};
+
+const CHECK_FLAG: ArgumentText = ArgumentText {
+    name: CHECK,
+    help: "Write only what a run without failures writes",
+    ..FLAG
+};
+
+const WITNESS_OPTION: ArgumentText = ArgumentText {
+    name: WITNESS,
+    help: "Check, and write that run to FILE as a script of sim",
+    values: &["FILE"],
+    ..OPTION
+};
+
+const RECORD_OPTION: ArgumentText = ArgumentText {
+    name: RECORD,
+    help: "Write what the threads did to FILE as a script of sim",
+    values: &["FILE"],
+    excludes: &[CHECK, WITNESS],
+    ..OPTION
+};
+
+const FOLLOW_FLAG: ArgumentText = ArgumentText {
+    name: FOLLOW,
+    help: "Write each output as soon as it is released",
+    excludes: &[CHECK, WITNESS, RECORD],
+    ..FLAG
+};
+
+const KILLS_OPTION: ArgumentText = ArgumentText {
+    name: KILLS,
+    help: "Draw N kills, at most 64, in place of those of FILE",
+    values: &["N"],
+    ..OPTION
+};
+
+const SEED_OPTION: ArgumentText = ArgumentText {
+    name: SEED,
+    help: "Which kills are drawn, a number of 64 bits [default: 0]",
+    values: &["S"],
+    needs: &[KILLS],
+    ..OPTION
+};
+
+const TEXT_FLAG: ArgumentText = ArgumentText {
+    name: TEXT,
+    help: "Write the bytes of outputs as text with the escapes of C",
+    ..FLAG
+};
+
+const RAW_OPTION: ArgumentText = ArgumentText {
+    name: RAW,
+    help: "Write only the bytes that the process NAME put out",
+    values: &["NAME"],
+    excludes: &[CHECK, WITNESS, RECORD, TEXT],
+    ..OPTION
+};
+
+const STRICT_FLAG: ArgumentText = ArgumentText {
+    name: STRICT,
+    help: "End with status 1 where a process trapped, or a line kill did not come",
+    ..FLAG
+};
+
 pub(crate) fn command<'a>(alloc: Global) -> Result<Command<'a>, AllocError> {
-    let command = Command::new(alloc, "omlog")
+    let subcommands = subcommands(alloc)?;
+    Command::new(alloc, "omlog")
         .bin_name("omlog")?
         .about(
             "Runs message-passing programs whose processes log, fail and recover, and computes their recovery states",
         )
         .version(VERSION)
         .after_long_help(HELP)
-        .subcommand_required(true);
-    with_clusters(alloc, with_scripts(alloc, command)?)
+        .subcommand_required(true)
+        .subcommands(subcommands)
 }
 
-// Adds the subcommands that read words, records or events.
-fn with_scripts<'a>(alloc: Global, command: Command<'a>) -> Result<Command<'a>, AllocError> {
-    let command = with_command(command, command_of(alloc, Subcommand::Decode))?;
-    let command = with_command(command, command_of(alloc, Subcommand::Image))?;
-    let command = with_command(command, command_of(alloc, Subcommand::Frontier))?;
-    let command = with_command(command, command_of(alloc, Subcommand::Sim))?;
-    with_command(command, command_of(alloc, Subcommand::Draw))
-}
-
-// Adds the subcommands that run clusters, and look into what they stored.
-fn with_clusters<'a>(alloc: Global, command: Command<'a>) -> Result<Command<'a>, AllocError> {
-    let command = with_command(command, command_of(alloc, Subcommand::Run))?;
-    let command = with_command(command, command_of(alloc, Subcommand::Explore))?;
-    let command = with_command(command, command_of(alloc, Subcommand::Debug))?;
-    let command = with_command(command, command_of(alloc, Subcommand::Replay))?;
-    with_command(command, command_of(alloc, Subcommand::Show))
+// Makes the commands of all subcommands, in their order.
+fn subcommands<'a>(alloc: Global) -> Result<Vec<Command<'a>>, AllocError> {
+    let mut commands = Vec::new(alloc);
+    for subcommand in SUBCOMMANDS {
+        commands.push(command_of(alloc, *subcommand)?)?;
+    }
+    Ok(commands)
 }
 
 pub(crate) fn command_of<'a>(
     alloc: Global,
     subcommand: Subcommand,
 ) -> Result<Command<'a>, AllocError> {
-    let command = with_input(alloc, subcommand, own_command(alloc, subcommand)?)?;
-    command.arg(verbose_option(alloc))
+    command_by(alloc, text_of(subcommand))
 }
 
-// The command of a subcommand, without what it has in common with others.
-fn own_command<'a>(alloc: Global, subcommand: Subcommand) -> Result<Command<'a>, AllocError> {
+// Returns what is said of a subcommand.
+fn text_of(subcommand: Subcommand) -> CommandText {
     match subcommand {
-        Subcommand::Decode => decode_command(alloc),
-        Subcommand::Frontier => Ok(frontier_command(alloc)),
-        Subcommand::Sim => sim_command(alloc),
-        Subcommand::Draw => draw_command(alloc),
-        Subcommand::Run => run_command(alloc),
-        Subcommand::Explore => explore_command(alloc),
-        Subcommand::Debug => debug_command(alloc),
-        Subcommand::Replay => replay_command(alloc),
-        Subcommand::Show => show_command(alloc),
-        Subcommand::Image => image_command(alloc),
+        Subcommand::Decode => DECODE_COMMAND,
+        Subcommand::Frontier => FRONTIER_COMMAND,
+        Subcommand::Sim => SIM_COMMAND,
+        Subcommand::Draw => DRAW_COMMAND,
+        Subcommand::Run => RUN_COMMAND,
+        Subcommand::Explore => EXPLORE_COMMAND,
+        Subcommand::Debug => DEBUG_COMMAND,
+        Subcommand::Replay => REPLAY_COMMAND,
+        Subcommand::Show => SHOW_COMMAND,
+        Subcommand::Image => IMAGE_COMMAND,
     }
-}
-
-// With the file that is read, where a subcommand reads a text.
-fn with_input<'a>(
-    alloc: Global,
-    subcommand: Subcommand,
-    command: Command<'a>,
-) -> Result<Command<'a>, AllocError> {
-    match subcommand {
-        Subcommand::Debug | Subcommand::Replay | Subcommand::Show | Subcommand::Image => Ok(
-            command,
-        ),
-        _ => command.arg(input_file(alloc)),
-    }
-}
-
-fn input_file<'a>(alloc: Global) -> Arg<'a> {
-    Arg::new(alloc, INPUT).value_name("FILE").help(
-        "What is read, in place of standard input; - is standard input",
-    )
-}
-
-fn decode_command<'a>(alloc: Global) -> Result<Command<'a>, AllocError> {
-    let with_m = Arg::new(alloc, M)
-        .long(M)
-        .help("Read the instructions of RV32M too")
-        .action(ArgAction::SetTrue);
-    Command::new(alloc, DECODE)
-        .about("The texts of the instructions that words of RV32I stand for")
-        .after_long_help(DECODE_HELP)
-        .arg(with_m)
-}
-
-fn image_command<'a>(alloc: Global) -> Result<Command<'a>, AllocError> {
-    Command::new(alloc, IMAGE)
-        .about("The program line of a raw image")
-        .after_long_help(IMAGE_HELP)
-        .arg(m_option(alloc))?
-        .arg(name_argument(alloc))?
-        .arg(size_argument(alloc))
-}
-
-fn m_option<'a>(alloc: Global) -> Arg<'a> {
-    Arg::new(alloc, M)
-        .long(M)
-        .help("The program may use RV32M")
-        .action(ArgAction::SetTrue)
-}
-
-fn name_argument<'a>(alloc: Global) -> Arg<'a> {
-    Arg::new(alloc, NAME)
-        .help("The name of the program")
-        .required(true)
-}
-
-fn size_argument<'a>(alloc: Global) -> Arg<'a> {
-    Arg::new(alloc, SIZE)
-        .help("The bytes of its memory, 4 to 65536")
-        .required(true)
-}
-
-fn frontier_command<'a>(alloc: Global) -> Command<'a> {
-    Command::new(alloc, FRONTIER)
-        .about("The greatest recoverable state after each note of a record script")
-        .after_long_help(FRONTIER_HELP)
-}
-
-fn sim_command<'a>(alloc: Global) -> Result<Command<'a>, AllocError> {
-    Command::new(alloc, SIM)
-        .about("Logged processes that are played event by event")
-        .after_long_help(SIM_HELP)
-        .arg(text_option(alloc))
-}
-
-fn run_command<'a>(alloc: Global) -> Result<Command<'a>, AllocError> {
-    let command = Command::new(alloc, RUN)
-        .about("Logged processes that run in threads, fail and recover")
-        .after_long_help(RUN_HELP)
-        .arg(turns_option(alloc))?
-        .arg(store_option(alloc))?;
-    let command = with_arg(command, resume_option(alloc))?;
-    let command = with_tellings(alloc, with_checks(alloc, command)?)?;
-    with_forms(alloc, with_kills(alloc, command)?)
-}
-
-// Adds the options that say which processes are to fail.
-fn with_kills<'a>(alloc: Global, command: Command<'a>) -> Result<Command<'a>, AllocError> {
-    with_arg(command.arg(kills_option(alloc))?, seed_option(alloc))
-}
-
-// Adds the options that say how outputs are written, and what is a failure.
-fn with_forms<'a>(alloc: Global, command: Command<'a>) -> Result<Command<'a>, AllocError> {
-    let command = with_arg(command.arg(text_option(alloc))?, raw_option(alloc))?;
-    command.arg(strict_option(alloc))
-}
-
-// Adds the options that check a run.
-fn with_checks<'a>(alloc: Global, command: Command<'a>) -> Result<Command<'a>, AllocError> {
-    command.arg(check_option(alloc))?.arg(witness_option(alloc))
-}
-
-// Adds the options that say what happened in a run.
-fn with_tellings<'a>(alloc: Global, command: Command<'a>) -> Result<Command<'a>, AllocError> {
-    let command = with_arg(command, record_option(alloc))?;
-    with_arg(command, follow_option(alloc))
-}
-
-fn turns_option<'a>(alloc: Global) -> Arg<'a> {
-    Arg::new(alloc, TURNS).long(TURNS).value_name("K").help(
-        "The most turns of each process, a number of 64 bits [default: 50000000]",
-    )
-}
-
-fn store_option<'a>(alloc: Global) -> Arg<'a> {
-    Arg::new(alloc, STORE)
-        .long(STORE)
-        .value_name("PREFIX")
-        .help("Keep the stores in files")
-}
-
-fn resume_option<'a>(alloc: Global) -> Result<Arg<'a>, AllocError> {
-    Arg::new(alloc, RESUME)
-        .long(RESUME)
-        .help("Go on from the stores where there are any")
-        .action(ArgAction::SetTrue)
-        .requires_arg(STORE)?
-        .conflicts_with(RECORD)
-}
-
-fn check_option<'a>(alloc: Global) -> Arg<'a> {
-    Arg::new(alloc, CHECK)
-        .long(CHECK)
-        .help("Write only what a run without failures writes")
-        .action(ArgAction::SetTrue)
-}
-
-fn witness_option<'a>(alloc: Global) -> Arg<'a> {
-    Arg::new(alloc, WITNESS)
-        .long(WITNESS)
-        .value_name("FILE")
-        .help("Check, and write that run to FILE as a script of sim")
-}
-
-fn record_option<'a>(alloc: Global) -> Result<Arg<'a>, AllocError> {
-    Arg::new(alloc, RECORD)
-        .long(RECORD)
-        .value_name("FILE")
-        .help("Write what the threads did to FILE as a script of sim")
-        .conflicts_with(CHECK)?
-        .conflicts_with(WITNESS)
-}
-
-fn follow_option<'a>(alloc: Global) -> Result<Arg<'a>, AllocError> {
-    Arg::new(alloc, FOLLOW)
-        .long(FOLLOW)
-        .help("Write each output as soon as it is released")
-        .action(ArgAction::SetTrue)
-        .conflicts_with(CHECK)?
-        .conflicts_with(WITNESS)?
-        .conflicts_with(RECORD)
-}
-
-fn text_option<'a>(alloc: Global) -> Arg<'a> {
-    Arg::new(alloc, TEXT)
-        .long(TEXT)
-        .help("Write the bytes of outputs as text with the escapes of C")
-        .action(ArgAction::SetTrue)
-}
-
-fn raw_option<'a>(alloc: Global) -> Result<Arg<'a>, AllocError> {
-    Arg::new(alloc, RAW)
-        .long(RAW)
-        .value_name("NAME")
-        .help("Write only the bytes that the process NAME put out")
-        .conflicts_with(CHECK)?
-        .conflicts_with(WITNESS)?
-        .conflicts_with(RECORD)?
-        .conflicts_with(TEXT)
-}
-
-fn kills_option<'a>(alloc: Global) -> Arg<'a> {
-    Arg::new(alloc, KILLS)
-        .long(KILLS)
-        .value_name("N")
-        .help("Draw N kills, at most 64, in place of those of FILE")
-}
-
-fn seed_option<'a>(alloc: Global) -> Result<Arg<'a>, AllocError> {
-    Arg::new(alloc, SEED)
-        .long(SEED)
-        .value_name("S")
-        .help("Which kills are drawn, a number of 64 bits [default: 0]")
-        .requires_arg(KILLS)
-}
-
-fn strict_option<'a>(alloc: Global) -> Arg<'a> {
-    Arg::new(alloc, STRICT)
-        .long(STRICT)
-        .help("End with status 1 where a process trapped, or a line kill did not come")
-        .action(ArgAction::SetTrue)
-}
-
-fn verbose_option<'a>(alloc: Global) -> Arg<'a> {
-    Arg::new(alloc, VERBOSE)
-        .long(VERBOSE)
-        .help("Say more on standard error: what was refused and why; of a run, who waited")
-        .action(ArgAction::SetTrue)
 }

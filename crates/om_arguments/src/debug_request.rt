@@ -6,10 +6,10 @@ ghost use Rattle.om_arguments.specs.steps.Requests.{asked_by};
 ghost use Rattle.om_arguments.specs.declared.arguments.Subcommand.{Subcommand};
 
 use crate::arguments::{Request, STANDARD_STREAM};
-use crate::building::with_arg;
-use crate::commands::INPUT;
+use crate::building::{ArgumentText, CommandText, OPTION, WORD};
+use crate::commands::{INPUT, VERBOSE_FLAG};
 use crate::mistake::{Mistake, needed, number_for};
-use clap::{Arg, ArgAction, ArgMatches, Command};
+use clap::{ArgAction, ArgMatches};
 use std::alloc::{AllocError, Global};
 
 pub(crate) const DEBUG: &str = "debug";
@@ -21,8 +21,6 @@ const ELF: &str = "elf";
 const STORE: &str = "store";
 
 const STORE_WORDS: &str = "--store <FILE> [INTERVAL]";
-
-static STORE_VALUES: [&str; 2] = ["FILE", "INTERVAL"];
 
 // With a store no record is named.
 const USAGE: &str = "\
@@ -92,6 +90,52 @@ Example: from the end of a run back to what wrote the variable found.
   (gdb) continue
   (gdb) watch -location found
   (gdb) reverse-continue";
+
+pub(crate) const DEBUG_COMMAND: CommandText = CommandText {
+    name: DEBUG,
+    about: "A process of a record under gdb, forward and back",
+    help: DEBUG_HELP,
+    usage: Some(USAGE),
+    arguments: &[
+        PROCESS_OPTION,
+        ELF_OPTION,
+        STORE_OPTION,
+        RECORD_FILE,
+        VERBOSE_FLAG,
+    ],
+};
+
+const PROCESS_OPTION: ArgumentText = ArgumentText {
+    name: PROCESS,
+    help: "The one process that is shown (default: all)",
+    values: &["NAME"],
+    ..OPTION
+};
+
+const ELF_OPTION: ArgumentText = ArgumentText {
+    name: ELF,
+    help: "The file with the symbols of a program, for gdb to read; once for each",
+    action: ArgAction::Append,
+    values: &["PROGRAM=FILE"],
+    excludes: &[PROCESS],
+    ..OPTION
+};
+
+const STORE_OPTION: ArgumentText = ArgumentText {
+    name: STORE,
+    help: "A store whose process is shown, and the interval (default: the last)",
+    values: &["FILE", "INTERVAL"],
+    excludes: &[PROCESS, ELF, INPUT],
+    ..OPTION
+};
+
+const RECORD_FILE: ArgumentText = ArgumentText {
+    name: INPUT,
+    help: "The record, a script of sim",
+    values: &["RECORD"],
+    is_required: true,
+    ..WORD
+};
 
 /// The file that has the symbols of a program.
 #[derive(Clone, Copy, Debug, PartialEq, Eq)]
@@ -188,49 +232,4 @@ pub(crate) fn symbols_of<'a>(
         }
     }
     Ok(all)
-}
-
-pub(crate) fn debug_command<'a>(alloc: Global) -> Result<Command<'a>, AllocError> {
-    let command = Command::new(alloc, DEBUG)
-        .about("A process of a record under gdb, forward and back")
-        .override_usage(USAGE)
-        .after_long_help(DEBUG_HELP)
-        .arg(process_option(alloc))?;
-    let command = with_arg(command, elf_option(alloc))?;
-    let command = with_arg(command, store_option(alloc))?;
-    command.arg(record_argument(alloc))
-}
-
-fn record_argument<'a>(alloc: Global) -> Arg<'a> {
-    Arg::new(alloc, INPUT)
-        .value_name("RECORD")
-        .help("The record, a script of sim")
-        .required(true)
-}
-
-fn process_option<'a>(alloc: Global) -> Arg<'a> {
-    Arg::new(alloc, PROCESS)
-        .long(PROCESS)
-        .value_name("NAME")
-        .help("The one process that is shown (default: all)")
-}
-
-fn elf_option<'a>(alloc: Global) -> Result<Arg<'a>, AllocError> {
-    Arg::new(alloc, ELF)
-        .long(ELF)
-        .value_name("PROGRAM=FILE")
-        .action(ArgAction::Append)
-        .help("The file with the symbols of a program, for gdb to read; once for each")
-        .conflicts_with(PROCESS)
-}
-
-fn store_option<'a>(alloc: Global) -> Result<Arg<'a>, AllocError> {
-    Arg::new(alloc, STORE)
-        .long(STORE)
-        .value_names(&STORE_VALUES)
-        .num_args(1..=2)
-        .help("A store whose process is shown, and the interval (default: the last)")
-        .conflicts_with(PROCESS)?
-        .conflicts_with(ELF)?
-        .conflicts_with(INPUT)
 }

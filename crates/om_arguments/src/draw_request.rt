@@ -1,8 +1,9 @@
 //! The subcommand `draw`: its window, and how it is asked for.
 
+use crate::building::{ArgumentText, CommandText, OPTION};
+use crate::commands::{INPUT_FILE, VERBOSE_FLAG};
 use crate::mistake::{Mistake, number_for};
-use clap::{Arg, ArgMatches, Command};
-use std::alloc::{AllocError, Global};
+use clap::ArgMatches;
 
 pub(crate) const DRAW: &str = "draw";
 
@@ -25,6 +26,28 @@ A faulty script is refused whole, as by sim.
 Example:
   omlog draw script.txt > picture.svg
   omlog draw --from 100 --to 160 script.txt > picture.svg";
+
+pub(crate) const DRAW_COMMAND: CommandText = CommandText {
+    name: DRAW,
+    about: "The picture of logged processes that are played event by event",
+    help: DRAW_HELP,
+    usage: None,
+    arguments: &[FROM_OPTION, TO_OPTION, INPUT_FILE, VERBOSE_FLAG],
+};
+
+const FROM_OPTION: ArgumentText = ArgumentText {
+    name: FROM,
+    help: "The first line of the script that is shown",
+    values: &["LINE"],
+    ..OPTION
+};
+
+const TO_OPTION: ArgumentText = ArgumentText {
+    name: TO,
+    help: "The last line that is played",
+    values: &["LINE"],
+    ..OPTION
+};
 
 /// The lines of a script whose events are drawn.
 #[derive(Clone, Copy, Debug, PartialEq, Eq)]
@@ -53,20 +76,4 @@ fn line_of<'a>(
         Some(word) => Ok(number_for(argument, word)? as usize),
         None => Ok(default),
     }
-}
-
-pub(crate) fn draw_command<'a>(alloc: Global) -> Result<Command<'a>, AllocError> {
-    let from = Arg::new(alloc, FROM)
-        .long(FROM)
-        .value_name("LINE")
-        .help("The first line of the script that is shown");
-    let to = Arg::new(alloc, TO)
-        .long(TO)
-        .value_name("LINE")
-        .help("The last line that is played");
-    Command::new(alloc, DRAW)
-        .about("The picture of logged processes that are played event by event")
-        .after_long_help(DRAW_HELP)
-        .arg(from)?
-        .arg(to)
 }

@@ -1,10 +1,10 @@
 //! The subcommand `explore`: which runs it plays, and how it is asked for.
 
 use crate::arguments::{OutputForm, form_of};
-use crate::building::with_arg;
+use crate::building::{ArgumentText, CommandText, FLAG, OPTION};
+use crate::commands::{INPUT_FILE, VERBOSE_FLAG};
 use crate::mistake::{Mistake, long_number_for};
-use clap::{Arg, ArgAction, ArgMatches, Command};
-use std::alloc::{AllocError, Global};
+use clap::ArgMatches;
 
 pub(crate) const EXPLORE: &str = "explore";
 
@@ -74,6 +74,64 @@ A faulty file is refused whole: 'line N: ..' on standard error, status 1.
 Example: what a race between two senders comes to.
   omlog explore --all race.txt";
 
+pub(crate) const EXPLORE_COMMAND: CommandText = CommandText {
+    name: EXPLORE,
+    about: "What a cluster may write, by the orders in which its messages come",
+    help: EXPLORE_HELP,
+    usage: None,
+    arguments: &[
+        RUNS_OPTION,
+        SEED_OPTION,
+        ALL_FLAG,
+        WITNESSES_OPTION,
+        TURNS_OPTION,
+        TEXT_FLAG,
+        INPUT_FILE,
+        VERBOSE_FLAG,
+    ],
+};
+
+const RUNS_OPTION: ArgumentText = ArgumentText {
+    name: RUNS,
+    help: "How many runs are played [default: 1000; with --all at most 1000000]",
+    values: &["N"],
+    ..OPTION
+};
+
+const SEED_OPTION: ArgumentText = ArgumentText {
+    name: SEED,
+    help: "Which orders are drawn, a number of 64 bits [default: 0]",
+    values: &["S"],
+    excludes: &[ALL],
+    ..OPTION
+};
+
+const ALL_FLAG: ArgumentText = ArgumentText {
+    name: ALL,
+    help: "Go through all runs that there can be",
+    ..FLAG
+};
+
+const WITNESSES_OPTION: ArgumentText = ArgumentText {
+    name: WITNESSES,
+    help: "Write a run of each text to a file, as a script of sim",
+    values: &["PREFIX"],
+    ..OPTION
+};
+
+const TURNS_OPTION: ArgumentText = ArgumentText {
+    name: TURNS,
+    help: "The most turns of each process, a number of 64 bits [default: 1000000]",
+    values: &["K"],
+    ..OPTION
+};
+
+const TEXT_FLAG: ArgumentText = ArgumentText {
+    name: TEXT,
+    help: "Write the bytes in which texts differ as text with the escapes of C",
+    ..FLAG
+};
+
 /// How a cluster is to be explored.
 #[derive(Clone, Copy, Debug, PartialEq, Eq)]
 pub struct Exploring<'a> {
@@ -115,57 +173,4 @@ fn number_or<'a>(
         Some(word) => long_number_for(argument, word),
         None => Ok(default),
     }
-}
-
-pub(crate) fn explore_command<'a>(alloc: Global) -> Result<Command<'a>, AllocError> {
-    let command = Command::new(alloc, EXPLORE)
-        .about("What a cluster may write, by the orders in which its messages come")
-        .after_long_help(EXPLORE_HELP)
-        .arg(runs_option(alloc))?;
-    with_arg(command, seed_option(alloc))?
-        .arg(all_option(alloc))?
-        .arg(witnesses_option(alloc))?
-        .arg(turns_option(alloc))?
-        .arg(text_option(alloc))
-}
-
-fn runs_option<'a>(alloc: Global) -> Arg<'a> {
-    Arg::new(alloc, RUNS).long(RUNS).value_name("N").help(
-        "How many runs are played [default: 1000; with --all at most 1000000]",
-    )
-}
-
-fn seed_option<'a>(alloc: Global) -> Result<Arg<'a>, AllocError> {
-    Arg::new(alloc, SEED)
-        .long(SEED)
-        .value_name("S")
-        .help("Which orders are drawn, a number of 64 bits [default: 0]")
-        .conflicts_with(ALL)
-}
-
-fn all_option<'a>(alloc: Global) -> Arg<'a> {
-    Arg::new(alloc, ALL)
-        .long(ALL)
-        .help("Go through all runs that there can be")
-        .action(ArgAction::SetTrue)
-}
-
-fn witnesses_option<'a>(alloc: Global) -> Arg<'a> {
-    Arg::new(alloc, WITNESSES)
-        .long(WITNESSES)
-        .value_name("PREFIX")
-        .help("Write a run of each text to a file, as a script of sim")
-}
-
-fn text_option<'a>(alloc: Global) -> Arg<'a> {
-    Arg::new(alloc, TEXT)
-        .long(TEXT)
-        .help("Write the bytes in which texts differ as text with the escapes of C")
-        .action(ArgAction::SetTrue)
-}
-
-fn turns_option<'a>(alloc: Global) -> Arg<'a> {
-    Arg::new(alloc, TURNS).long(TURNS).value_name("K").help(
-        "The most turns of each process, a number of 64 bits [default: 1000000]",
-    )
 }

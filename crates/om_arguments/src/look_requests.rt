@@ -5,10 +5,10 @@ ghost use Rattle.om_arguments.specs.steps.Requests.{looked_by};
 ghost use Rattle.om_arguments.specs.declared.arguments.Subcommand.{Subcommand};
 
 use crate::arguments::{OutputForm, form_of};
-use crate::building::with_arg;
+use crate::building::{ArgumentText, CommandText, FLAG, OPTION, WORD};
+use crate::commands::VERBOSE_FLAG;
 use crate::mistake::{Mistake, long_number_for, needed, number_for};
-use clap::{Arg, ArgAction, ArgMatches, Command};
-use std::alloc::{AllocError, Global};
+use clap::ArgMatches;
 
 pub(crate) const SHOW: &str = "show";
 
@@ -121,6 +121,78 @@ const TEXT: &str = "text";
 
 const SHORT: &str = "short";
 
+pub(crate) const SHOW_COMMAND: CommandText = CommandText {
+    name: SHOW,
+    about: "What the store of a process holds, and to where it can be replayed",
+    help: SHOW_HELP,
+    usage: None,
+    arguments: &[STORE_FILE, BODIES_FLAG, TEXT_FLAG, VERBOSE_FLAG],
+};
+
+pub(crate) const REPLAY_COMMAND: CommandText = CommandText {
+    name: REPLAY,
+    about: "The state of a process in an interval, from its store",
+    help: REPLAY_HELP,
+    usage: None,
+    arguments: &[
+        STORE_FILE,
+        INTERVAL_WORD,
+        STEPS_OPTION,
+        TRACE_FLAG,
+        SHORT_FLAG,
+        VERBOSE_FLAG,
+    ],
+};
+
+const STORE_FILE: ArgumentText = ArgumentText {
+    name: FILE,
+    help: "The store of the process",
+    values: &[FILE],
+    is_required: true,
+    ..WORD
+};
+
+const BODIES_FLAG: ArgumentText = ArgumentText {
+    name: BODIES,
+    help: "Write the bodies of messages too",
+    ..FLAG
+};
+
+const TEXT_FLAG: ArgumentText = ArgumentText {
+    name: TEXT,
+    help: "Write them as text with the escapes of C",
+    needs: &[BODIES],
+    ..FLAG
+};
+
+const INTERVAL_WORD: ArgumentText = ArgumentText {
+    name: INTERVAL,
+    help: "The interval, 0 to 4294967295",
+    values: &[INTERVAL],
+    is_required: true,
+    ..WORD
+};
+
+const STEPS_OPTION: ArgumentText = ArgumentText {
+    name: STEPS,
+    help: "Go on for K instructions, a number of 64 bits",
+    values: &["K"],
+    ..OPTION
+};
+
+const TRACE_FLAG: ArgumentText = ArgumentText {
+    name: TRACE,
+    help: "Write a line for each of these instructions",
+    needs: &[STEPS],
+    ..FLAG
+};
+
+const SHORT_FLAG: ArgumentText = ArgumentText {
+    name: SHORT,
+    help: "Fold rows of memory that are all zeros",
+    ..FLAG
+};
+
 /// What is looked for in the store of a process.
 #[derive(Clone, Copy, Debug, PartialEq, Eq)]
 pub enum Look<'a> {
@@ -184,73 +256,4 @@ pub(crate) fn replay_request<'a>(found: &ArgMatches<'a>) -> Result<Look<'a>, Mis
         traced: found.get_flag(TRACE),
         short,
     })
-}
-
-pub(crate) fn show_command<'a>(alloc: Global) -> Result<Command<'a>, AllocError> {
-    let command = Command::new(alloc, SHOW)
-        .about("What the store of a process holds, and to where it can be replayed")
-        .after_long_help(SHOW_HELP)
-        .arg(store_file(alloc))?
-        .arg(bodies_option(alloc))?;
-    with_arg(command, text_option(alloc))
-}
-
-pub(crate) fn replay_command<'a>(alloc: Global) -> Result<Command<'a>, AllocError> {
-    let command = Command::new(alloc, REPLAY)
-        .about("The state of a process in an interval, from its store")
-        .after_long_help(REPLAY_HELP)
-        .arg(store_file(alloc))?
-        .arg(interval_argument(alloc))?
-        .arg(steps_option(alloc))?;
-    let command = with_arg(command, trace_option(alloc))?;
-    command.arg(short_option(alloc))
-}
-
-fn bodies_option<'a>(alloc: Global) -> Arg<'a> {
-    Arg::new(alloc, BODIES)
-        .long(BODIES)
-        .help("Write the bodies of messages too")
-        .action(ArgAction::SetTrue)
-}
-
-fn text_option<'a>(alloc: Global) -> Result<Arg<'a>, AllocError> {
-    Arg::new(alloc, TEXT)
-        .long(TEXT)
-        .help("Write them as text with the escapes of C")
-        .action(ArgAction::SetTrue)
-        .requires_arg(BODIES)
-}
-
-fn short_option<'a>(alloc: Global) -> Arg<'a> {
-    Arg::new(alloc, SHORT)
-        .long(SHORT)
-        .help("Fold rows of memory that are all zeros")
-        .action(ArgAction::SetTrue)
-}
-
-fn interval_argument<'a>(alloc: Global) -> Arg<'a> {
-    Arg::new(alloc, INTERVAL)
-        .help("The interval, 0 to 4294967295")
-        .required(true)
-}
-
-fn steps_option<'a>(alloc: Global) -> Arg<'a> {
-    Arg::new(alloc, STEPS)
-        .long(STEPS)
-        .value_name("K")
-        .help("Go on for K instructions, a number of 64 bits")
-}
-
-fn trace_option<'a>(alloc: Global) -> Result<Arg<'a>, AllocError> {
-    Arg::new(alloc, TRACE)
-        .long(TRACE)
-        .help("Write a line for each of these instructions")
-        .action(ArgAction::SetTrue)
-        .requires_arg(STEPS)
-}
-
-fn store_file<'a>(alloc: Global) -> Arg<'a> {
-    Arg::new(alloc, FILE)
-        .help("The store of the process")
-        .required(true)
 }

@@ -6,7 +6,7 @@ use Rattle.std.proofs.lemmas.List.{get_or_append_left, get_or_push, length_push,
 use Rattle.std.proofs.lemmas.Bool.{cases_lt}
 use Rattle.std.proofs.lemmas.Grind.{common_steps}
 use Rattle.om_board.proofs.PostingLemmas.{early_or_last, one_log, zeros_are_words}
-use Rattle.om_interval.specs.Vectors.{IsBelow, words_of}
+use Rattle.om_interval.specs.Vectors.{IsBelow, padded_words}
 use Rattle.om_interval.proofs.VectorLemmas.{below_itself}
 use Rattle.om_manager.specs.State.{ManagerState}
 use Rattle.om_manager.specs.Sound.{GoesOn}
@@ -123,20 +123,20 @@ posted_in n log is i j d below within =
 -- the words of a front spell it
 pub spelled : (front : Front) → front_in (length front.vec) (words_in front) ≡ front
 spelled front =
-    let same : take (length front.vec) (words_of front.vec) ≡ front.vec = grind (arith, common_steps) in
+    let same : take (length front.vec) (padded_words front.vec) ≡ front.vec = grind (arith, common_steps) in
     ap (λ vec. record { version = front.version; round = front.round; vec = vec }) same
 
 pub spelled_at : (n : ℕ) (front : Front) → length front.vec ≡ n → front_in n (words_in front) ≡ front
 spelled_at n front e = subst (λ k. front_in k (words_in front) ≡ front) e (spelled front)
 
-words_below : (low high : List ℕ) → IsBelow low high → length low ≤ 16 → (place : ℕ) → slice_index (words_of low) place ≤ slice_index (words_of high) place
+words_below : (low high : List ℕ) → IsBelow low high → length low ≤ 16 → (place : ℕ) → slice_index (padded_words low) place ≤ slice_index (padded_words high) place
 words_below low high below few place = ⊎_elim
     (λ (inside : place < length low).
-    let a : slice_index (words_of low) place ≡ slice_index low place = grind (arith, common_steps) in
-    let b : slice_index (words_of high) place ≡ slice_index high place = grind (arith, common_steps, below.same_places) in
+    let a : slice_index (padded_words low) place ≡ slice_index low place = grind (arith, common_steps) in
+    let b : slice_index (padded_words high) place ≡ slice_index high place = grind (arith, common_steps, below.same_places) in
     omega (arith, a, b, below.each place inside))
     (λ (past : length low ≤ place).
-    let a : slice_index (words_of low) place ≡ 0 = grind (arith, common_steps) in
+    let a : slice_index (padded_words low) place ≡ 0 = grind (arith, common_steps) in
     omega (arith, a))
     (cases_lt place (length low))
 

@@ -1,4 +1,4 @@
-//! By which a worker that sleeps is woken.
+//! A bell, which wakes the worker that sleeps by it.
 
 use crossbeam_utils::CachePadded;
 use std::sync::Wait;
@@ -33,8 +33,8 @@ pub enum SpinOutcome {
     Slice,
 }
 
-/// Wakes one worker, which sleeps by it; any rings it. Rung while its worker is awake, it ends the next sleep: so a worker that
-/// looks before it sleeps misses nothing.
+/// Wakes the one thread that sleeps by it: a worker, or the thread that started the workers; any thread rings it. Rung while its thread
+/// is awake, it ends the next sleep: so a thread that looks before it sleeps misses nothing.
 // Each stands on cache lines of its own, since workers that wait look at theirs all the time.
 #[derive(Drop)]
 pub struct Bell {

@@ -12,7 +12,7 @@ use om_interval::MAX_PROCESSES;
 pub enum Waiting {
     /// It has to put all messages that it keeps anew before it may wait.
     Owes,
-    /// It puts them anew, or has done so.
+    /// It puts all messages that it keeps anew, or has put them, and does not wait yet.
     Offers,
     /// It waits with all of them put. So many messages it has put and taken since the run began.
     Waits(u64, u64),

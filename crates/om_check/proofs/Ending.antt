@@ -22,7 +22,7 @@ use Rattle.om_world.specs.Holds.{StandsAt}
 use Rattle.om_world.specs.Live.{Legal, program_at, received}
 use Rattle.om_world.specs.World.{WorldState, output_entry}
 use Rattle.om_world.specs.declared.process_state.ProcessState.{ProcessState}
-use Rattle.om_check.specs.FailureFree.{ComesTo, IsAtRest, IsRunBy, RestsWith}
+use Rattle.om_check.specs.FailureFree.{RunsAloneTo, IsAtRest, IsRunBy, RestsWith}
 use Rattle.om_check.specs.Whole.{AreReleasedIn, AreStatusesOf, IsDone, IsUnderWay, IsWhole}
 
 -- ---- queues from 0 on
@@ -236,7 +236,7 @@ ended_core w p c done core =
 
 comes_to : (programs : List Program) (w : WorldState) (p : ℕ) (program : Program) (c : CoreState) → IsWhole programs w
     → slice_get programs p ≡ Some program → slice_get w.cores p ≡ Some (Some c)
-    → ComesTo program p (length programs) (received p w.live) (released_by w.manager p) (status_of (move_of c))
+    → RunsAloneTo program p (length programs) (received p w.live) (released_by w.manager p) (status_of (move_of c))
 comes_to programs w p program c whole at core =
     let done = whole.done p (below programs p program at) in
     (rests_with programs w p program c whole.way (rested_done w p done) at core, ended_core w p c done core)
@@ -251,8 +251,8 @@ whole_run programs w outputs statuses whole processes ends outs stats = record {
   ends = ends;
   each = λ p program out status at out_at status_at.
       let core = stats p status status_at in
-      subst (λ os. ComesTo program p (length programs) (received p w.live) os status) (sym (outs p out out_at))
-      (subst (λ s. ComesTo program p (length programs) (received p w.live) (released_by w.manager p) s) (sym core.2)
+      subst (λ os. RunsAloneTo program p (length programs) (received p w.live) os status) (sym (outs p out out_at))
+      (subst (λ s. RunsAloneTo program p (length programs) (received p w.live) (released_by w.manager p) s) (sym core.2)
       (comes_to programs w p program core.0 whole at core.1));
 }
 

@@ -28,8 +28,8 @@ pub record RestsWith (program : Program) (own n : ℕ) (h : List Received) (outp
   pub put_out : queue_at end.queues n ≡ record { first = 0; entries = map output_entry outputs }
 
 -- by these receipts process `own` of n comes to an end with this status, and has put out exactly this
-abbrev pub ComesTo : Program → ℕ → ℕ → List Received → List HeldOutput → Status → Type 0
-ComesTo program own n h outputs status = RestsWith program own n h outputs status × IsEnd status
+abbrev pub RunsAloneTo : Program → ℕ → ℕ → List Received → List HeldOutput → Status → Type 0
+RunsAloneTo program own n h outputs status = RestsWith program own n h outputs status × IsEnd status
 
 -- what the processes put out, and how they ended, in the run without failures in which this was received
 pub record IsRunBy (programs : List Program) (live : List Entry) (outputs : List (List HeldOutput)) (statuses : List Status) : Type 0 where
@@ -38,7 +38,7 @@ pub record IsRunBy (programs : List Program) (live : List Entry) (outputs : List
   pub ends : length statuses ≡ length programs
   pub each : (p : ℕ) (program : Program) (out : List HeldOutput) (status : Status)
       → slice_get programs p ≡ Some program → slice_get outputs p ≡ Some out → slice_get statuses p ≡ Some status
-      → ComesTo program p (length programs) (received p live) out status
+      → RunsAloneTo program p (length programs) (received p live) out status
 
 -- all that was sent to a process was received: whatever another comes to have sent to it has a lower number than the next one from there
 abbrev pub HasReceivedAll : List Program → List Entry → ℕ → Type 0

@@ -37,22 +37,6 @@ impl Eprint for Told {
     }
 }
 
-// Compares the status with which a command ends that answered so, and what is on standard error.
-fn check_told(
-    rt: &impl Abort,
-    alloc: Global,
-    answer: Result<(), CommandError>,
-    (status, line): (u8, &str),
-) {
-    let told = Told {
-        text: RefCell::new(String::new(alloc)),
-    };
-    let ended = end(&told, answer) == ExitCode::from(status);
-    assert!(rt; ended, "{line}");
-    let text = told.text.into_inner();
-    assert_eq!(rt; text.as_str(), line);
-}
-
 /// Compares how a command ends that answered so: with 1 and this line on standard error, or with 0 and nothing there.
 pub fn check_end(
     rt: &impl Abort,
@@ -60,12 +44,17 @@ pub fn check_end(
     answer: Result<(), CommandError>,
     wanted: Option<&str>,
 ) {
-    match wanted {
-        None => check_told(rt, alloc, answer, (0, "")),
-        Some(line) => {
-            let line = format!(in alloc; "{line}\n").expect(rt, "memory");
-            check_told(rt, alloc, answer, (1, &line));
-        }
+    let (status, line) = match wanted {
+        None => (0, String::new(alloc)),
+        Some(line) => (1, format!(in alloc; "{line}\n").expect(rt, "memory")),
+    };
+    let told = Told {
+        text: RefCell::new(String::new(alloc)),
+    };
+    assert_eq!(rt; end(&told, answer), ExitCode::from(status), "{line}");
+    match told.text.try_borrow_mut() {
+        Ok(text) => assert_eq!(rt; text.as_str(), line.as_str()),
+        Err(_) => panic!(rt; "in use"),
     }
 }
 

@@ -123,8 +123,11 @@ fn check(rt: &impl Abort, alloc: Global, (ext, name, size, bytes, want): &Row) {
         Ok(line) => (Ok(()), *line),
         Err(error) => (Err(*error), ""),
     };
-    let is_right = told == answer && text.as_slice() == line.as_bytes();
-    assert!(rt; is_right, "{name} {size}: {told:?}");
+    assert_eq!(rt;
+        (told, text.as_slice()),
+        (answer, line.as_bytes()),
+        "{name} {size}"
+    );
 }
 
 #[test]
@@ -134,33 +137,21 @@ fn images_have_their_lines(rt: HostRuntime) {
     }
 }
 
-// The length of an input, how much of it is left, and why it is no image.
-static LONGEST: [(usize, usize, Result<(), ImageError>); 3] = [
-    (65_536, 0, Ok(())),
-    (65_537, 0, Err(ImageError::Line(LineError::ImageTooLong))),
-    (65_540, 3, Err(ImageError::Line(LineError::ImageTooLong))),
-];
-
-fn check_longest(
-    rt: &impl Abort,
-    alloc: Global,
-    mut reader: &[u8],
-    (left, want): (usize, Result<(), ImageError>),
-) {
-    let mut text = Vec::new(alloc);
-    let told = image(alloc, Ext::I, b"p", b"65536", &mut reader, &mut text);
-    let words = if want.is_ok() { 16 + 9 * 16_384 } else { 0 };
-    assert!(rt; told == want, "{told:?}");
-    assert!(rt; reader.len() == left && text.len() == words);
-}
-
 // A memory may have 65,536 bytes; of a longer input one byte more is read, and what is behind it is left.
 #[test]
 fn the_longest_image(rt: HostRuntime) {
-    let bytes = vec![in rt.alloc(); 0x5A; 65_540].expect(&rt, "memory");
-    for (len, left, want) in &LONGEST {
-        let reader = bytes.get(..*len).expect(&rt, "bytes");
-        check_longest(&rt, rt.alloc(), reader, (*left, *want));
+    let alloc = rt.alloc();
+    let bytes = vec![in alloc; 0x5A; 65_540].expect(&rt, "memory");
+    for (len, left, want) in [
+        (65_536, 0, Ok(())),
+        (65_537, 0, Err(ImageError::Line(LineError::ImageTooLong))),
+        (65_540, 3, Err(ImageError::Line(LineError::ImageTooLong))),
+    ] {
+        let mut reader = bytes.get(..len).expect(&rt, "bytes");
+        let mut text = Vec::new(alloc);
+        let told = image(alloc, Ext::I, b"p", b"65536", &mut reader, &mut text);
+        let words = if want.is_ok() { 16 + 9 * 16_384 } else { 0 };
+        assert_eq!(rt; (told, reader.len(), text.len()), (want, left, words));
     }
 }
 

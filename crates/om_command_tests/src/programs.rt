@@ -17,23 +17,12 @@ type Row = (Kind, &'static str, Result<(), LineError>);
 // Hands in each line, and compares the answer.
 fn check_lines(rt: &impl Abort, alloc: Global, programs: &mut Programs, rows: &[Row]) {
     for (kind, words, want) in rows {
-        let told = added(rt, alloc, programs, *kind, words);
-        let is_right = told == want.map_err(BuildError::Invalid);
-        assert!(rt; is_right, "{words}: {told:?}");
-    }
-}
-
-fn added(
-    rt: &impl Abort,
-    alloc: Global,
-    programs: &mut Programs,
-    kind: Kind,
-    words: &str,
-) -> Result<(), BuildError> {
-    let words = split(rt, alloc, words);
-    match kind {
-        Program => programs.add_program(alloc, Ext::I, &words),
-        Process => programs.add_process(alloc, &words),
+        let words = split(rt, alloc, words);
+        let told = match kind {
+            Program => programs.add_program(alloc, Ext::I, &words),
+            Process => programs.add_process(alloc, &words),
+        };
+        assert_eq!(rt; told, want.map_err(BuildError::Invalid), "{words:?}");
     }
 }
 
@@ -71,20 +60,20 @@ static PROGRAMS: [Row; 14] = [
     (Program, " 4", Err(LineError::BadName)),
 ];
 
-fn check_images(rt: &impl Abort, programs: &Programs) {
-    assert!(rt; programs.image(3).is_none());
-    let image = programs.image(0).expect(rt, "a program");
-    assert!(rt; image.size == 4 && image.ext == Ext::I);
-    assert!(rt; image.bytes.as_slice() == [0x93, 0, 0x50, 0].as_slice());
-}
-
-// What owns programs only hands them on: each further call where they are owned is dear to prove, and so is a drop that no call makes.
 #[test]
 fn lines_of_programs_are_taken_or_refused(rt: HostRuntime) {
     let mut programs = Programs::new(rt.alloc());
     check_lines(&rt, rt.alloc(), &mut programs, &PROGRAMS);
-    check_images(&rt, &programs);
-    drop(programs);
+    let image = programs.image(0).expect(&rt, "a program");
+    assert_eq!(rt;
+        (
+            image.size,
+            image.ext,
+            image.bytes.as_slice(),
+            programs.image(3).is_none()
+        ),
+        (4, Ext::I, [0x93, 0, 0x50, 0].as_slice(), true)
+    );
 }
 
 static PROCESSES: [Row; 7] = [
@@ -103,20 +92,22 @@ static LATE: [Row; 2] = [
     (Process, "b a", Err(LineError::OutOfPlace)),
 ];
 
-fn check_processes(rt: &impl Abort, programs: &Programs) {
-    assert!(rt; programs.n() == 2);
-    assert!(rt; programs.place("a") == Some(1) && programs.place("b").is_none());
-    assert!(rt; programs.name(0) == Some("x") && programs.name(2).is_none());
-}
-
 #[test]
 fn lines_of_processes_are_taken_or_refused(rt: HostRuntime) {
     let mut programs = Programs::new(rt.alloc());
     check_lines(&rt, rt.alloc(), &mut programs, &PROCESSES);
-    check_processes(&rt, &programs);
+    assert_eq!(rt;
+        (
+            programs.n(),
+            programs.place("a"),
+            programs.place("b"),
+            programs.name(0),
+            programs.name(2)
+        ),
+        (2, Some(1), None, Some("x"), None)
+    );
     programs.close();
     check_lines(&rt, rt.alloc(), &mut programs, &LATE);
-    drop(programs);
     laws::limits();
 }
 
@@ -145,5 +136,4 @@ static SEVENTEEN: [Row; 18] = [
 fn sixteen_processes_are_a_cluster(rt: HostRuntime) {
     let mut programs = Programs::new(rt.alloc());
     check_lines(&rt, rt.alloc(), &mut programs, &SEVENTEEN);
-    drop(programs);
 }

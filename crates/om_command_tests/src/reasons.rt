@@ -195,28 +195,17 @@ fn sight(doing: Doing) -> Sight {
     sight
 }
 
-// Adds a program, and four processes that have it.
-fn add_four(rt: &impl Abort, alloc: Global, programs: &mut Programs) {
-    let added = programs.add_program(alloc, Ext::I, &[b"w".as_slice(), b"16"]);
-    added.expect(rt, "a program");
-    for name in &NAMES {
-        let added = programs.add_process(alloc, &[*name, b"w"]);
-        added.expect(rt, "a process");
-    }
-}
-
-static NAMES: [&[u8]; 4] = [b"a", b"b", b"c", b"d"];
-
-fn check_ends(rt: &impl Abort, alloc: Global, programs: &Programs, sights: &[Sight], wanted: &str) {
-    let text = ends_text(alloc, programs, sights).expect(rt, "memory");
-    assert_eq!(rt; text.as_str(), wanted);
-}
-
 // A line for each process that has ended, also where more are seen than there are, and none for the others.
 #[test]
 fn those_that_have_ended_are_named(rt: HostRuntime) {
     let mut programs = Programs::new(rt.alloc());
-    add_four(&rt, rt.alloc(), &mut programs);
+    let words = [b"w".as_slice(), b"16"];
+    let added = programs.add_program(rt.alloc(), Ext::I, &words);
+    assert_eq!(&rt; added, Ok(()));
+    for name in [b"a".as_slice(), b"b", b"c", b"d"] {
+        let added = programs.add_process(rt.alloc(), &[name, b"w"]);
+        assert_eq!(&rt; added, Ok(()));
+    }
     let sights = [
         sight(Doing::Up(Status::Ended(4_294_967_295))),
         sight(Doing::Up(Status::Trapped(Cause::Break))),
@@ -224,7 +213,6 @@ fn those_that_have_ended_are_named(rt: HostRuntime) {
         sight(Doing::Up(Status::Ended(0))),
         sight(Doing::Begins),
     ];
-    let wanted = "a: ended 4294967295\nd: ended 0\n";
-    check_ends(&rt, rt.alloc(), &programs, &sights, wanted);
-    drop(programs);
+    let text = ends_text(rt.alloc(), &programs, &sights).expect(&rt, "memory");
+    assert_eq!(&rt; text.as_str(), "a: ended 4294967295\nd: ended 0\n");
 }

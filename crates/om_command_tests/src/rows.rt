@@ -84,7 +84,7 @@ fn check_answer(
         _ => (None, wanted),
     };
     check_end(rt, alloc, answer, line);
-    assert!(rt; told == text.as_bytes(), "{input}");
+    assert_eq!(rt; told, text.as_bytes(), "{input}");
 }
 
 // Returns what is compared of what was written: so many bytes where it has to begin with them, else all.

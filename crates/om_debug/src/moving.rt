@@ -294,8 +294,8 @@ impl Debugger {
         Ok(())
     }
 
-    /// Goes back by what came last to the process, and tells a breakpoint where it then stands. Where that accesses what is watched, it
-    /// stays right behind it. Refused where memory ran out, and then it stands at a position before that.
+    /// Goes back by what came last to the process, and tells a breakpoint where it then stands. Where what came last accesses what is
+    /// watched, the process stays right behind that access. Refused where memory ran out: then it stands somewhere before where it stood.
     #[tactic(auto, using(crate::proofs::Moved::moved_then, crate::proofs::Moved::same_then, crate::proofs::Moved::moved_not, crate::proofs::Stepping::stepped_as, crate::proofs::Stepping::last_stands, crate::proofs::Stepping::within_stands, crate::proofs::Stepping::few_stands, crate::proofs::Stepping::last_within, crate::proofs::Backwards::stands_then))]
     pub fn step_back(&mut self) -> Result<Stop, PlayFault>
         ensures stands { self.new ≡ standing self.old self.new.timeline.event self.new.timeline.turns }

@@ -6,10 +6,12 @@ ghost use Rattle.om_timeline.specs.Deeds.{turns_at};
 ghost use Rattle.om_timeline.specs.Timeline.{machine_here};
 ghost use Rattle.om_debug.specs.Moments.{is_still, next_at};
 ghost use Rattle.om_debug.specs.Stops.{standing};
-ghost use Rattle.om_debug.specs.Standing.{standing_text, status_text};
+ghost use Rattle.om_debug.specs.Standing.{standing_text};
+ghost use Rattle.om_world.specs.Texts.{status_text};
 
 use crate::debugger::Debugger;
 use crate::moment::{Next, is_down, next_at};
+use om_event_text::push_status;
 use om_machine::Machine;
 use om_process::Status;
 use om_timeline::{PlayFault, Position};
@@ -18,15 +20,9 @@ use std::alloc::{AllocError, Global};
 fn status_text(alloc: Global, status: Status) -> Result<String, AllocError>
     ensures { IfOk result (λ text. string_bytes text ≡ status_text status) }
 {
-    match status {
-        Status::Ready => String::from_str(alloc, "ready"),
-        Status::Waiting => String::from_str(alloc, "waiting"),
-        Status::Ended(code) => format!(in alloc; "ended {code}"),
-        Status::Trapped(cause) => {
-            let number = cause.number();
-            format!(in alloc; "trapped {number}")
-        }
-    }
+    let mut text = String::new(alloc);
+    push_status(&mut text, status)?;
+    Ok(text)
 }
 
 fn is_still(next: Next) -> bool

@@ -54,8 +54,8 @@ group_stop_text number stop = signal_text stop ++ codes "thread:p" ++ digits 16 
 
 -- ---- who is meant
 -- where the process of a number stands among those that are shown
-abbrev pub place_of : List Inferior → ℕ → Option ℕ
-place_of members number = position (λ (m : Inferior). m.number == number) members
+abbrev pub place_of_inferior : List Inferior → ℕ → Option ℕ
+place_of_inferior members number = position (λ (m : Inferior). m.number == number) members
 
 abbrev pub at_place : List Inferior → Option ℕ → Option Inferior
 at_place members None = None
@@ -63,7 +63,7 @@ at_place members (Some place) = slice_get members place
 
 -- the process of a number, if it is shown
 abbrev pub member_of : List Inferior → ℕ → Option Inferior
-member_of members number = at_place members (place_of members number)
+member_of members number = at_place members (place_of_inferior members number)
 
 -- the number of the one that is meant
 abbrev pub number_of : Inferiors → Whom → ℕ
@@ -73,8 +73,8 @@ number_of d (One n) = n
 
 abbrev pub is_there : List Inferior → Whom → Bool
 is_there members Any = true
-is_there members (Whole n) = is_some (place_of members n)
-is_there members (One n) = is_some (place_of members n)
+is_there members (Whole n) = is_some (place_of_inferior members n)
+is_there members (One n) = is_some (place_of_inferior members n)
 
 -- the number that is named, or the one that was meant before
 abbrev pub named_or : ℕ → Whom → ℕ
@@ -143,8 +143,8 @@ set_members members (Some place) change = set_place members place change (slice_
 
 -- the one that is meant is set anew
 pub record IsSet (old : Inferiors) (change : DebugState → DebugState) (told : Reply) (new : Inferiors) : Type 0 where
-  pub text : text_of told ≡ ok_if (is_some (place_of old.members.items old.selected))
-  pub members : new.members.items ≡ set_members old.members.items (place_of old.members.items old.selected) change
+  pub text : text_of told ≡ ok_if (is_some (place_of_inferior old.members.items old.selected))
+  pub members : new.members.items ≡ set_members old.members.items (place_of_inferior old.members.items old.selected) change
   pub selected : new.selected ≡ old.selected
   pub going : new.going ≡ old.going
   pub focus : new.focus ≡ old.focus
@@ -155,9 +155,9 @@ left_members members (Some place) = remove members place
 
 -- a process is shown no more, and it is over when none is left
 pub record IsLeft (old : Inferiors) (number : ℕ) (told : Reply) (new : Inferiors) : Type 0 where
-  pub text : text_of told ≡ ok_if (is_some (place_of old.members.items number))
-  pub members : new.members.items ≡ left_members old.members.items (place_of old.members.items number)
-  pub last : is_last told ≡ (is_some (place_of old.members.items number) && (length new.members.items == 0))
+  pub text : text_of told ≡ ok_if (is_some (place_of_inferior old.members.items number))
+  pub members : new.members.items ≡ left_members old.members.items (place_of_inferior old.members.items number)
+  pub last : is_last told ≡ (is_some (place_of_inferior old.members.items number) && (length new.members.items == 0))
   pub selected : new.selected ≡ old.selected
   pub going : new.going ≡ old.going
   pub focus : new.focus ≡ old.focus

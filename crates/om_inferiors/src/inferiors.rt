@@ -4,7 +4,7 @@ ghost use Rattle.std.specs.Prelude.{◌≡◌, ◌==◌, ◌<◌, ◌⊎◌, IfO
 ghost use Rattle.om_requests.specs.Groups.{group_request_of};
 ghost use Rattle.om_debug.specs.Told.{clear_break, clear_watch, is_last, is_leaving, set_break, set_watch, text_of, with_breaks, with_watches};
 ghost use Rattle.om_debug.specs.declared.stop.Stop.TheVariants.{Paused};
-ghost use Rattle.om_inferiors.specs.Told.{IsGroupAnswered, IsGroupBack, IsGroupEnd, IsGroupOn, IsLeft, IsRefused, IsSet, IsTold, asked_group, group_stop_text, is_there, member_of, memory_of, number_of, place_of, registers_of, thread_text, threads_text};
+ghost use Rattle.om_inferiors.specs.Told.{IsGroupAnswered, IsGroupBack, IsGroupEnd, IsGroupOn, IsLeft, IsRefused, IsSet, IsTold, asked_group, group_stop_text, is_there, member_of, memory_of, number_of, place_of_inferior, registers_of, thread_text, threads_text};
 
 use crate::inferior::Inferior;
 use crate::moving::{Stopped, backward, forward};
@@ -53,7 +53,7 @@ fn text(alloc: Global, text: &str) -> Result<Reply, AllocError>
 
 // Returns where the process of a number stands among those that are shown.
 pub(crate) fn place_of(members: &[Inferior], number: u32) -> Option<usize>
-    ensures place { result ≡ place_of members.now number }
+    ensures place { result ≡ place_of_inferior members.now number }
     ensures within { IfSome result (λ place. place < length members.now) }
 {
     members.iter().position(|member| member.number == number)

@@ -7,5 +7,5 @@ pub record IsBelow (low high : List ℕ) : Type 0 where
   pub each : (place : ℕ) → place < length low → slice_index low place ≤ slice_index high place
 
 -- the numbers of a vector as words: behind them zeros, up to the limit of processes
-abbrev pub words_of : List ℕ → List ℕ
-words_of vector = vector ++ replicate (MAX_PROCESSES - length vector) 0
+abbrev pub padded_words : List ℕ → List ℕ
+padded_words vector = vector ++ replicate (MAX_PROCESSES - length vector) 0

@@ -6,7 +6,7 @@ ghost use Rattle.std.specs.Cmp.Rules.{comparing};
 ghost use Rattle.std.proofs.Common.{rules};
 ghost use Rattle.om_interval.specs.steps.InUse.{AreInUse};
 ghost use Rattle.om_interval.specs.steps.InUseLaws.{length-in_use, padded-in_use};
-ghost use Rattle.om_interval.specs.Vectors.{IsBelow, words_of};
+ghost use Rattle.om_interval.specs.Vectors.{IsBelow, padded_words};
 ghost use Rattle.om_interval.specs.declared.pid.TheConstants.{MAX_PROCESSES};
 
 use crate::pid::{MAX_PROCESSES, Pid};
@@ -80,7 +80,7 @@ impl DepVec {
 
     /// Returns the numbers as words, by process, and zeros up to the limit of processes.
     pub fn to_words(&self) -> [u64; MAX_PROCESSES]
-        ensures words { result ≡ words_of self.now }
+        ensures words { result ≡ padded_words self.now }
         ensures fit { All (λ word. word < 2 ^ 32) result }
     {
         let mut words = [0; MAX_PROCESSES];

@@ -8,8 +8,8 @@ use Rattle.om_stable.specs.Content.{Content, Records, IsEffective}
 use Rattle.om_process.specs.declared.replay.ReplayFault.{ReplayFault}
 use Rattle.om_process.specs.declared.replay.ReplayFault.TheVariants.{NoCheckpoint, Damaged, MissingReceipt, Mismatch, Fault, Memory}
 use Rattle.om_process.specs.Process.{Process, delivered}
-use Rattle.om_process.specs.Replays.{Replayed, process_of, received_of}
-use Rattle.om_process.specs.Stored.{anyone, AreReceiptsAfter, BeginsWith, CanReplay, ComesTo, IsNoMatterOfContent, Refuses, StandsAfter}
+use Rattle.om_process.specs.Replays.{Replayed, process_of_checkpoint, received_of}
+use Rattle.om_process.specs.Stored.{anyone, AreReceiptsAfter, BeginsWith, CanReplay, ContentReplaysTo, IsNoMatterOfContent, Refuses, StandsAfter}
 use Rattle.om_process.proofs.Exactly.{only_refused}
 use Rattle.om_look.specs.declared.fault.LookFault.{LookFault}
 use Rattle.om_look.specs.steps.Stops.{StopsAt}
@@ -73,7 +73,7 @@ front own n (suc k) held after (r ∷ rs) s t stored replayed le =
 can_below : (held : Content) (x w y own n : ℕ) (t : Process) (s : StandsAfter anyone held x w own n t) → w ≤ x → s.checkpoint.head.interval ≤ y → y ≤ w → CanReplay anyone held y
 can_below held x w y own n t s le low high =
     let at : w ≡ s.checkpoint.head.interval + length s.receipts = s.last in
-    let part = front own n (y - s.checkpoint.head.interval) held.receipts s.checkpoint.head.interval s.receipts (process_of s.checkpoint) t s.stored s.replayed (omega arith) in
+    let part = front own n (y - s.checkpoint.head.interval) held.receipts s.checkpoint.head.interval s.receipts (process_of_checkpoint s.checkpoint) t s.stored s.replayed (omega arith) in
     let long : length part.0 ≡ y - s.checkpoint.head.interval = part.3 in (
       own,
       n,
@@ -104,21 +104,21 @@ stops_behind held x c e can =
     }
 
 -- ---- what is refused at a receipt stops there
-before_at : (held : Content) (x y own n : ℕ) (s : Process) (c : ℕ) → IsEffective held.checkpoints x c → ComesTo anyone held x y own n s → (z : ℕ) → c ≤ z → z < y → CanReplay anyone held z
+before_at : (held : Content) (x y own n : ℕ) (s : Process) (c : ℕ) → IsEffective held.checkpoints x c → ContentReplaysTo anyone held x y own n s → (z : ℕ) → c ≤ z → z < y → CanReplay anyone held z
 before_at held x y own n s c e comes z low high =
     let some : 0 < y = comes.0 in
     let within : y ≤ x = comes.1 in
     let same = one_effective held.checkpoints x comes.2.checkpoint.head.interval c comes.2.begins.effective e in
     can_below held x (y - 1) z own n s comes.2 (omega arith) (omega arith) (omega arith)
 
-above_checkpoint : (held : Content) (x y own n : ℕ) (s : Process) (c : ℕ) → IsEffective held.checkpoints x c → ComesTo anyone held x y own n s → c < y
+above_checkpoint : (held : Content) (x y own n : ℕ) (s : Process) (c : ℕ) → IsEffective held.checkpoints x c → ContentReplaysTo anyone held x y own n s → c < y
 above_checkpoint held x y own n s c e comes =
     let some : 0 < y = comes.0 in
     let at : y - 1 ≡ comes.2.checkpoint.head.interval + length comes.2.receipts = comes.2.last in
     let same = one_effective held.checkpoints x comes.2.checkpoint.head.interval c comes.2.begins.effective e in
     omega arith
 
-comes_below : (held : Content) (x y z own n : ℕ) (s : Process) → ComesTo anyone held x y own n s → y ≤ z → z ≤ x → ComesTo anyone held z y own n s
+comes_below : (held : Content) (x y z own n : ℕ) (s : Process) → ContentReplaysTo anyone held x y own n s → y ≤ z → z ≤ x → ContentReplaysTo anyone held z y own n s
 comes_below held x y z own n s comes low high =
     let some : 0 < y = comes.0 in
     (some, low, stands_below held x (y - 1) z own n s comes.2 (omega arith) high)
@@ -136,7 +136,7 @@ is_some_none None some none = cc
 is_some_none (Some bytes) some none = cc
 
 -- a stop at a receipt up to which all is replayed, and behind which nothing is
-stops_there : (held : Content) (x y own n : ℕ) (s : Process) (c : ℕ) → IsEffective held.checkpoints x c → ComesTo anyone held x y own n s → ((z : ℕ) → y ≤ z → z ≤ x → CanReplay anyone held z → ⊥) → StopsAt held c x y
+stops_there : (held : Content) (x y own n : ℕ) (s : Process) (c : ℕ) → IsEffective held.checkpoints x c → ContentReplaysTo anyone held x y own n s → ((z : ℕ) → y ≤ z → z ≤ x → CanReplay anyone held z → ⊥) → StopsAt held c x y
 stops_there held x y own n s c e comes never =
     let above : c < y = above_checkpoint held x y own n s c e comes in
     let within : y ≤ x = comes.1 in

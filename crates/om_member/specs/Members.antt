@@ -17,7 +17,7 @@ use Rattle.om_process.specs.declared.accept.Accept.TheVariants as accepts
 use Rattle.om_process.specs.declared.down.Down.{Down}
 use Rattle.om_process.specs.declared.replay.ReplayFault.{ReplayFault}
 use Rattle.om_process.specs.declared.replay.ReplayFault.TheVariants as replays
-use Rattle.om_process.specs.declared.turns.Ran.{Ran}
+use Rattle.om_process.specs.declared.turns.RunEnd.{RunEnd}
 use Rattle.om_manager.specs.Rounds.{Failing, Joining}
 use Rattle.om_manager.specs.State.{ManagerState}
 use Rattle.om_manager.specs.declared.answers.FailError.{FailError}
@@ -101,7 +101,7 @@ pub record TakesTurns {S : Type 0} (old : Member S) (fuel : ℕ) (new : Member S
   pub others : new ≡ record old { standing = stands.Up after }
 
 -- a process that is up has run: as many turns as there are, up to the fuel
-pub record HasRun {S : Type 0} (old : Member S) (fuel : ℕ) (ran : Ran) (new : Member S) : Type 0 where
+pub record HasRun {S : Type 0} (old : Member S) (fuel : ℕ) (ran : RunEnd) (new : Member S) : Type 0 where
   pub before : CoreState
   pub after : CoreState
   pub up : old.standing ≡ stands.Up before

@@ -8,7 +8,7 @@ use om_process::Made;
 
 /// An output of a process, whether the process keeps it or a manager: as it is handed in.
 pub trait HandedOutput {
-    /// It as its process made it.
+    /// The output as its process made it.
     ghost made: { Self → Made };
 
     /// Returns its number among the outputs of its process, from 0.

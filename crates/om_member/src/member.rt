@@ -17,7 +17,7 @@ use crate::{handing, telling};
 use om_format::Message;
 use om_interval::{Bounds, Pid, Starts, Verdict};
 use om_manager::{FailError, Gathered, JoinError, OutputError, RecordError};
-use om_process::{Accept, Down, ProcCore, Ran, ReplayFault};
+use om_process::{Accept, Down, ProcCore, ReplayFault, RunEnd};
 use om_stable::{Stable, StoreError};
 use std::alloc::{AllocError, Global};
 use std::mem;
@@ -104,7 +104,7 @@ impl<S: Stable> Member<S> {
 // What a process does by itself.
 impl<S: Stable> Member<S> {
     /// Runs a process that is up, at most `fuel` instructions. Where memory runs out the instructions before stand.
-    pub fn run(&mut self, alloc: Global, fuel: u64) -> Result<Result<Ran, AllocError>, NotUp>
+    pub fn run(&mut self, alloc: Global, fuel: u64) -> Result<Result<RunEnd, AllocError>, NotUp>
         ensures goes_on { OnOk result (TakesTurns self.old fuel self.new) }
         ensures ran { IfOk result (λ answer. IfOk answer (λ ran. HasRun self.old fuel ran self.new)) }
         ensures not_up { OnErr result (IsNotUp self.old.standing) }

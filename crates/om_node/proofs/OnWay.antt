@@ -32,7 +32,7 @@ use Rattle.om_process.specs.Core.{CoreState, CoreTurns, cluster_size, move_of, s
 use Rattle.om_process.specs.declared.status.Status.{Status}
 use Rattle.om_process.specs.Parts.{IsTrimmed}
 use Rattle.om_process.specs.Process.{Process, Received, delivered, empty_queue, made, started}
-use Rattle.om_process.specs.Replays.{process_of, received_of}
+use Rattle.om_process.specs.Replays.{process_of_checkpoint, received_of}
 use Rattle.om_process.specs.Starting.{started_core}
 use Rattle.om_process.specs.Stored.{StandsAfter, anyone, IsReplay}
 use Rattle.om_process.specs.Flights.{Carries, CarriesCheckpoint}
@@ -83,7 +83,7 @@ pub way_replayed : (m : Member) (x : ℕ) (held : Content) (t : Process) → Are
 way_replayed m x held t stored stands =
     let at = stands.begins.stored in
     let from = stored stands.checkpoint.head.interval at.0 at.1 stands.checkpoint at.2 in
-    (from.0 ++ receipts_of stands.receipts, replayed_along m.program m.own m.n (process_of stands.checkpoint) t from.0 stands.receipts from.1 stands.replayed)
+    (from.0 ++ receipts_of stands.receipts, replayed_along m.program m.own m.n (process_of_checkpoint stands.checkpoint) t from.0 stands.receipts from.1 stands.replayed)
 
 -- it is in the interval of its last receipt
 way_interval : (m : Member) (h : List Received) (s : Process) → CheckpointOf m.program m.own m.n s h → s.interval ≡ length h
@@ -95,10 +95,10 @@ pub replayed_to : (m : Member) (x : ℕ) (held : Content) (t : Process) → AreO
 replayed_to m x held t stored stands =
     let at = stands.begins.stored in
     let from = stored stands.checkpoint.head.interval at.0 at.1 stands.checkpoint at.2 in
-    let begun : stands.checkpoint.head.interval ≡ length from.0 = way_interval m from.0 (process_of stands.checkpoint) from.1 in
+    let begun : stands.checkpoint.head.interval ≡ length from.0 = way_interval m from.0 (process_of_checkpoint stands.checkpoint) from.1 in
     let ended : t.interval ≡ length (from.0 ++ receipts_of stands.receipts) =
     way_interval m (from.0 ++ receipts_of stands.receipts) t
-    (replayed_along m.program m.own m.n (process_of stands.checkpoint) t from.0 stands.receipts from.1 stands.replayed) in
+    (replayed_along m.program m.own m.n (process_of_checkpoint stands.checkpoint) t from.0 stands.receipts from.1 stands.replayed) in
     let both = length-append from.0 (receipts_of stands.receipts) in
     let many : length (receipts_of stands.receipts) ≡ length stands.receipts = length-map stands.receipts received_of in
     let last = stands.last in
@@ -131,7 +131,7 @@ stored_checkpoint m c old new stored on gained =
           let here : get (with_checkpoint old c.now.interval bytes).checkpoints x ≡ Some bytes = subst (λ y. get (with_checkpoint old c.now.interval bytes).checkpoints y ≡ Some bytes) (sym same) (get-insert_here old.checkpoints c.now.interval bytes) in
           let is : bytes ≡ found = same_Some bytes found (sym here ∙ at) in
           let one : r ≡ d = (one_checkpoint found V2 spelled.0 r d (subst (SpellsCheckpoint V2 r) is gained.3) spelled.1).1 in
-          subst (λ p. IsOnWay m p) (sym gained.1.process ∙ ap process_of one) on
+          subst (λ p. IsOnWay m p) (sym gained.1.process ∙ ap process_of_checkpoint one) on
       | inr apart ↦ stored x found (sym (get-insert_apart old.checkpoints c.now.interval bytes x apart) ∙ at) d spelled
     ])
 

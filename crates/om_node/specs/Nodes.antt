@@ -6,7 +6,7 @@ use Rattle.om_stable.specs.Content.{Content}
 use Rattle.om_process.specs.Claims.{CheckpointOf}
 use Rattle.om_process.specs.Core.{CoreState, cluster_size}
 use Rattle.om_process.specs.Process.{Process, Program, Received}
-use Rattle.om_process.specs.Replays.{process_of}
+use Rattle.om_process.specs.Replays.{process_of_checkpoint}
 use Rattle.om_manager.specs.Outputs.{HeldOutput}
 use Rattle.om_board.specs.Made.{IsOutputOf}
 
@@ -35,7 +35,7 @@ IsOnWay m s = (h : List Received) × CheckpointOf m.program m.own m.n s h
 -- so does each checkpoint that a store holds
 abbrev pub AreOnWay : Member → Content → Type 0
 AreOnWay m held = (x : ℕ) (bytes : List ℕ) → get held.checkpoints x ≡ Some bytes
-    → (c : CheckpointRecord) → IsSpelled c bytes → IsOnWay m (process_of c)
+    → (c : CheckpointRecord) → IsSpelled c bytes → IsOnWay m (process_of_checkpoint c)
 
 -- what is known of a member's store where it is clean
 pub record IsKept {S : Type 0} (content : S → Content) (is_clean : S → Bool) (IsSound : S → Type 0) (m : Member) (store : S)

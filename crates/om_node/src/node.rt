@@ -30,7 +30,7 @@ use om_format::Message;
 use om_interval::{Bounds, Pid, Starts, Verdict};
 use om_manager::{OutputError, RecordError};
 use om_member::ManagerAccess;
-use om_process::{Accept, Down, Flight, Image, ProcCore, Ran, StartFault, Status};
+use om_process::{Accept, Down, Flight, Image, ProcCore, RunEnd, StartFault, Status};
 use om_stable::{Ledger, NewCheckpoint, Stable, StoreError, WriteBatch};
 use om_tickets::{Series, Ticket};
 use std::alloc::{AllocError, Global};
@@ -157,7 +157,7 @@ impl<'a, J: Series, S: Stable> Node<'a, J, S> {
     }
 
     /// Runs at most `fuel` instructions. Refused where memory ran out.
-    pub fn run(&mut self, alloc: Global, fuel: u64) -> Result<Ran, WorkerFault>
+    pub fn run(&mut self, alloc: Global, fuel: u64) -> Result<RunEnd, WorkerFault>
         ensures member { self.new.member ≡ self.old.member }
         ensures ran { IfOk result (λ ran. RunsTo self.old.core fuel ran.steps ran.status self.new.core) }
     {
@@ -226,6 +226,7 @@ impl<'a, J: Series, S: Stable> Node<'a, J, S> {
     pub fn trim(&mut self, bounds: &Bounds)
         requires { length bounds.now.got ≡ self.old.member.n }
         ensures member { self.new.member ≡ self.old.member }
+        ensures away { self.new.away ≡ self.old.away }
         ensures core { self.new.core
             ≡ with_now self.old.core (trimmed (bounds.now.got ++ bounds.now.released ∷ []) self.old.core.now) }
     {
@@ -313,7 +314,7 @@ impl<'a, J: Series, S: Ledger> Node<'a, J, S> {
         ensures stored { OnOk result (HasStored k is_checkpoint_due self.old.core self.new.core) }
         ensures refused { OnErr result (self.new.core ≡ self.old.core) }
     {
-        // The interval tells that those of the receipts are numbers of intervals.
+        // The process's interval has 32 bits, so those of its receipts, which are not above it, have 32 bits too.
         let _ = self.core.interval();
         let flight = self.core.hand_over(alloc, k, is_checkpoint_due)?;
         let Hold::Here(store) = &mut self.hold else {
@@ -338,7 +339,7 @@ impl<'a, J: Series, S: Ledger> Node<'a, J, S> {
         ensures carries { IfOk result (λ transaction. Carries k is_checkpoint_due self.old.core transaction.flight) }
         ensures due { IfOk result (λ transaction. transaction.due ≡ due) }
     {
-        // The interval tells that those of the receipts are numbers of intervals.
+        // The process's interval has 32 bits, so those of its receipts, which are not above it, have 32 bits too.
         let _ = self.core.interval();
         let flight = self.core.hand_over(alloc, k, is_checkpoint_due)?;
         let transaction = Transaction { flight, due };

@@ -11,7 +11,7 @@ use om_board::Front;
 use om_format::Message;
 use om_interval::{MAX_PROCESSES, Pid, Verdict};
 use om_manager::Manager;
-use om_process::{Accept, ProcCore, Ran, Status};
+use om_process::{Accept, ProcCore, RunEnd, Status};
 use std::alloc::{AllocError, Global};
 use std::sync::Wait;
 
@@ -62,7 +62,7 @@ fn add_messages(
     Ok(())
 }
 
-// Adds those to one process from a number on, and says from which on there are none.
+// Adds an act for each message that the process keeps for another from the number `next` on, and returns the number behind the last.
 fn add_messages_to(
     acts: &mut Vec<Act>,
     own: Pid,
@@ -86,7 +86,8 @@ fn add_messages_to(
             inc: core.inc(),
             ssn,
         };
-        acts.push(Act::Send { letter })?;
+        let kept = oldest.ssn;
+        acts.push(Act::Send { letter, kept })?;
         after = ssn.saturating_add(1);
     }
     Ok(after)
@@ -152,7 +153,7 @@ impl<'a> Diary<'a> {
     }
 
     /// Tells that the process ran, before others can see what it sent; where it sent nothing and goes on, it is told later.
-    pub fn ran<R: Wait>(&mut self, rt: &R, core: &ProcCore, ran: Ran) -> Result<(), AllocError> {
+    pub fn ran<R: Wait>(&mut self, rt: &R, core: &ProcCore, ran: RunEnd) -> Result<(), AllocError> {
         self.refused = self.refused.saturating_add(ran.refused);
         let Some(recorder) = self.recorder else {
             return Ok(());
@@ -174,7 +175,7 @@ impl<'a> Diary<'a> {
         recorder.enter(rt, &acts)
     }
 
-    /// Tells how the process answered to a message. That one is there already is not told.
+    /// Tells how the process answered to a message, but not of one that it had received before.
     pub fn gave<R: Wait>(
         &mut self,
         rt: &R,

@@ -8,7 +8,7 @@
 //!
 //! - `observers`: who observes a run, in one value
 //! - `diary`: what a worker tells of its process
-//! - `recorder`: what the threads did, in one order
+//! - `recorder`: what the threads did, in one order, part by part
 //! - `witness`: what one process did, but for what was rolled back
 //! - `herald`: outputs as they are released
 //! - `watch`, with `sight` and `progress`: what the processes do, for whoever looks while they run
@@ -27,7 +27,7 @@ pub use diary::Diary;
 pub use herald::{Herald, Release};
 pub use observers::Observers;
 pub use progress::Progress;
-pub use recorder::{Act, Letter, Record, Recorder};
+pub use recorder::{Act, Letter, Record, Recorder, Scribe};
 pub use sight::{Doing, Sight};
 pub use watch::Watch;
 pub use witness::Past;

@@ -6,8 +6,8 @@ use crate::herald::Herald;
 use crate::recorder::Recorder;
 use crate::watch::Watch;
 
-/// Names who observes a run of a cluster. It is lent to all workers; each observer is off by default, and one that is off costs a
-/// test of an option.
+/// Names who observes a run of a cluster. It is lent to all workers; `none` has each of them off. An observer that is off costs a test of
+/// an option, and the recorder that of an act and its message beside, which are made before it is asked for.
 #[derive(Clone, Copy)]
 pub struct Observers<'a> {
     /// Takes in what the threads do, in one order. A process then notes what it stored before it runs on.
@@ -36,8 +36,11 @@ impl<'a> Observers<'a> {
         }
     }
 
-    /// Tells the herald, if there is one, that a worker has ended.
+    /// Tells the recorder and the herald, those that there are, that a worker has ended.
     pub fn end(&self) {
+        if let Some(recorder) = self.recorder {
+            recorder.end();
+        }
         if let Some(herald) = self.herald {
             herald.end();
         }

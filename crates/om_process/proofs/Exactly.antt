@@ -11,7 +11,7 @@ use Rattle.om_process.specs.declared.replay.ReplayFault.{ReplayFault}
 use Rattle.om_process.specs.declared.replay.ReplayFault.TheVariants.{NoCheckpoint, Damaged, MissingReceipt, Mismatch, Fault, Memory}
 use Rattle.om_process.specs.Process.{Process, delivered}
 use Rattle.om_process.specs.Turns.{Turns}
-use Rattle.om_process.specs.Replays.{FitsReceipt, Replayed, process_of, received_of}
+use Rattle.om_process.specs.Replays.{FitsReceipt, Replayed, process_of_checkpoint, received_of}
 use Rattle.om_process.specs.Stored.{anyone, AreReceiptsAfter, BeginsWith, CanReplay, IsCheckpointAt, IsCheckpointOf, IsNoMatterOfContent, IsReceiptAt, Refuses}
 use Rattle.om_process.proofs.Basics.{some_once}
 use Rattle.om_process.proofs.Runs.{waits_once}
@@ -111,10 +111,10 @@ only_refused whose held x (Mismatch y) why can =
     let within : y ≤ x = why.3.1 in
     let last : x ≡ stands.checkpoint.head.interval + length stands.receipts = stands.last in
     let here : y ≡ stands.checkpoint.head.interval + length before.receipts + 1 = omega arith in
-    let first = subst (λ o. Replayed o can.1 (process_of stands.checkpoint) before.receipts why.2) own
-    (subst (λ n. Replayed why.0 n (process_of stands.checkpoint) before.receipts why.2) size (subst (λ (c : CheckpointRecord). Replayed why.0 why.1 (process_of c) before.receipts why.2) record_same before.replayed)) in
+    let first = subst (λ o. Replayed o can.1 (process_of_checkpoint stands.checkpoint) before.receipts why.2) own
+    (subst (λ n. Replayed why.0 n (process_of_checkpoint stands.checkpoint) before.receipts why.2) size (subst (λ (c : CheckpointRecord). Replayed why.0 why.1 (process_of_checkpoint c) before.receipts why.2) record_same before.replayed)) in
     let not = subst (λ o. FitsNowhere o can.1 why.2 why.4) own (subst (λ n. FitsNowhere why.0 n why.2 why.4) size why.6) in
-    absurd (not_replayed can.0 can.1 held.receipts stands.checkpoint.head.interval before.receipts stands.receipts (process_of stands.checkpoint) why.2 can.2 why.4
+    absurd (not_replayed can.0 can.1 held.receipts stands.checkpoint.head.interval before.receipts stands.receipts (process_of_checkpoint stands.checkpoint) why.2 can.2 why.4
     (subst (λ z. AreReceiptsAfter held.receipts z before.receipts) same before.stored) stands.stored (omega arith) (subst (λ z. IsReceiptAt held.receipts z why.4) here why.5) first stands.replayed not)
 only_refused whose held x Fault why can = inl refl
 only_refused whose held x Memory why can = inr refl

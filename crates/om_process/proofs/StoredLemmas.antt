@@ -13,9 +13,9 @@ use Rattle.om_stable.proofs.BetweenLemmas.{between-AreAllBetween}
 use Rattle.om_process.specs.declared.replay.ReplayFault.{ReplayFault}
 use Rattle.om_process.specs.declared.replay.ReplayFault.TheVariants.{NoCheckpoint, Damaged, MissingReceipt, Mismatch, Fault, Memory}
 use Rattle.om_process.specs.Process.{Process}
-use Rattle.om_process.specs.Replays.{Replayed, process_of}
+use Rattle.om_process.specs.Replays.{Replayed, process_of_checkpoint}
 use Rattle.om_process.specs.Core.{CoreState, cluster_size}
-use Rattle.om_process.specs.Stored.{anyone, AreReceiptsAfter, BeginsWith, StandsAfter, ComesTo, IsCheckpointOf, IsReceiptAt, IsNoMatterOfContent, Refuses}
+use Rattle.om_process.specs.Stored.{anyone, AreReceiptsAfter, BeginsWith, StandsAfter, ContentReplaysTo, IsCheckpointOf, IsReceiptAt, IsNoMatterOfContent, Refuses}
 use Rattle.om_process.specs.steps.Rows.{Ascend, AreGapless, ComesFrom, HasReceipts, IsFirstGap, IsReplayFrom, RefusesBytes, RefusesCheckpoint, RefusesFrom, RefusesRow, RefusesRows, RefusesStart, SpellRows, damage}
 use Rattle.om_process.proofs.Basics.{some_once}
 use Rattle.om_process.proofs.Replays.{fits_not_both}
@@ -154,7 +154,7 @@ no_receipt held y z bytes there at none r is =
 
 -- what the rows before one make, and that one refuses
 pub row_from : (held : Content) (x : ℕ) (c : CheckpointRecord) (rows : List Row) (fault : ReplayFault) → rows ≡ between held.receipts c.head.interval x → AreGapless c.head.interval rows → c.head.interval + length rows ≡ x
-    → RefusesRows c.head.pid c.n (process_of c) rows fault → RefusesFrom held x c fault
+    → RefusesRows c.head.pid c.n (process_of_checkpoint c) rows fault → RefusesFrom held x c fault
 row_from held x c rows fault is gapless long refuses =
     let all = between-AreAllBetween held.receipts c.head.interval x in
     let front = refuses.0 in let row = refuses.1 in let back = refuses.2 in
@@ -198,7 +198,7 @@ row_from held x c rows fault is gapless long refuses =
 
 -- what all rows make
 pub rows_from_checkpoint : (held : Content) (x : ℕ) (c : CheckpointRecord) (rows : List Row) (rs : List ReceiptRecord) (first core : CoreState) → rows ≡ between held.receipts c.head.interval x → AreGapless c.head.interval rows → c.head.interval + length rows ≡ x
-    → SpellRows rows rs → length c.head.vec ≡ c.n → first.own ≡ c.head.pid → first.now ≡ process_of c → core.own ≡ first.own → cluster_size core.now ≡ cluster_size first.now → Replayed first.own (cluster_size first.now) first.now rs core.now → IsReplayFrom held x c core
+    → SpellRows rows rs → length c.head.vec ≡ c.n → first.own ≡ c.head.pid → first.now ≡ process_of_checkpoint c → core.own ≡ first.own → cluster_size core.now ≡ cluster_size first.now → Replayed first.own (cluster_size first.now) first.now rs core.now → IsReplayFrom held x c core
 rows_from_checkpoint held x c rows rs first core is gapless long spell places own now own_kept size_kept replayed =
     let all = between-AreAllBetween held.receipts c.head.interval x in
     let there : AreHeld held.receipts rows = λ i r at. all.are_held i r (ap (λ l. slice_get l i) (sym is) ∙ at) in
@@ -216,7 +216,7 @@ rows_from_checkpoint held x c rows rs first core is gapless long spell places ow
 
 -- what they refuse, where they begin in the checkpoint's process
 pub rows_refused : (held : Content) (x : ℕ) (c : CheckpointRecord) (rows : List Row) (fault : ReplayFault) (first : CoreState) → rows ≡ between held.receipts c.head.interval x → AreGapless c.head.interval rows → c.head.interval + length rows ≡ x
-    → length c.head.vec ≡ c.n → first.own ≡ c.head.pid → first.now ≡ process_of c → RefusesRows first.own (cluster_size first.now) first.now rows fault → RefusesFrom held x c fault
+    → length c.head.vec ≡ c.n → first.own ≡ c.head.pid → first.now ≡ process_of_checkpoint c → RefusesRows first.own (cluster_size first.now) first.now rows fault → RefusesFrom held x c fault
 rows_refused held x c rows fault first is gapless long places own now why =
     let size : cluster_size first.now ≡ c.n = ap cluster_size now ∙ places in
     row_from held x c rows fault is gapless long
@@ -280,7 +280,7 @@ refused_at_start whose held x (Mismatch y) why = absurd why
 refused_at_start whose held x Fault why = tt
 refused_at_start whose held x Memory why = tt
 
-stands_before : (whose : Option (ℕ × ℕ)) (held : Content) (x y : ℕ) (c : CheckpointRecord) (s : Process) → BeginsWith whose held x c → HasReceipts held x c → ComesFrom held x c y s → ComesTo whose held x y c.head.pid c.n s
+stands_before : (whose : Option (ℕ × ℕ)) (held : Content) (x y : ℕ) (c : CheckpointRecord) (s : Process) → BeginsWith whose held x c → HasReceipts held x c → ComesFrom held x c y s → ContentReplaysTo whose held x y c.head.pid c.n s
 stands_before whose held x y c s begins has comes =
     let next : y ≡ c.head.interval + length comes.receipts + 1 = comes.next in (
       omega arith,
@@ -306,7 +306,7 @@ replayed_from whose held x c core begins is = record {
   receipts = is.receipts;
   stored = is.stored;
   last = is.last;
-  replayed = subst (λ o. Replayed o (cluster_size core.now) (process_of c) is.receipts core.now) (sym is.own) (subst (λ n. Replayed c.head.pid n (process_of c) is.receipts core.now) (sym is.size) is.replayed);
+  replayed = subst (λ o. Replayed o (cluster_size core.now) (process_of_checkpoint c) is.receipts core.now) (sym is.own) (subst (λ n. Replayed c.head.pid n (process_of_checkpoint c) is.receipts core.now) (sym is.size) is.replayed);
 }
 
 pub refused_for_no_matter : (whose : Option (ℕ × ℕ)) (held : Content) (x : ℕ) (fault : ReplayFault) → IsNoMatterOfContent fault → Refuses whose held x fault

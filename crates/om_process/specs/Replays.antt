@@ -7,8 +7,8 @@ use Rattle.om_process.specs.Process.{Process, Received, delivered}
 use Rattle.om_process.specs.Turns.{Turns, IsWaiting}
 
 -- the process that a checkpoint is of
-abbrev pub process_of : CheckpointRecord → Process
-process_of c = record {
+abbrev pub process_of_checkpoint : CheckpointRecord → Process
+process_of_checkpoint c = record {
   machine = restored c.head.regs c.head.pc c.head.count c.memory c.head.ext;
   interval = c.head.interval;
   vec = c.head.vec;

@@ -8,7 +8,7 @@ use Rattle.om_process.specs.declared.replay.ReplayFault.{ReplayFault}
 use Rattle.om_process.specs.declared.replay.ReplayFault.TheVariants.{NoCheckpoint, Damaged, MissingReceipt, Mismatch, Fault, Memory}
 use Rattle.om_process.specs.Process.{Process}
 use Rattle.om_process.specs.Turns.{Turns}
-use Rattle.om_process.specs.Replays.{FitsReceipt, Replayed, process_of}
+use Rattle.om_process.specs.Replays.{FitsReceipt, Replayed, process_of_checkpoint}
 use Rattle.om_process.specs.Core.{CoreState, cluster_size}
 
 -- the record is stored at an interval, and names it
@@ -52,7 +52,7 @@ pub record StandsAfter (whose : Option (ℕ × ℕ)) (held : Content) (x y own n
   pub receipts : List ReceiptRecord
   pub stored : AreReceiptsAfter held.receipts checkpoint.head.interval receipts
   pub last : y ≡ checkpoint.head.interval + length receipts
-  pub replayed : Replayed own n (process_of checkpoint) receipts t
+  pub replayed : Replayed own n (process_of_checkpoint checkpoint) receipts t
 
 -- the content can be replayed to x
 abbrev pub CanReplay : Option (ℕ × ℕ) → Content → ℕ → Type 0
@@ -78,8 +78,8 @@ pub record IsLeastMissing (whose : Option (ℕ × ℕ)) (held : Content) (x y : 
   pub before : (z : ℕ) → checkpoint.head.interval < z → z < y → IsSome (get held.receipts z)
 
 -- a replay to x comes to receipt y: process own of n is in this state after the one before
-abbrev pub ComesTo : Option (ℕ × ℕ) → Content → ℕ → ℕ → ℕ → ℕ → Process → Type 0
-ComesTo whose held x y own n s = (0 < y) × (y ≤ x) × StandsAfter whose held x (y - 1) own n s
+abbrev pub ContentReplaysTo : Option (ℕ × ℕ) → Content → ℕ → ℕ → ℕ → ℕ → Process → Type 0
+ContentReplaysTo whose held x y own n s = (0 < y) × (y ≤ x) × StandsAfter whose held x (y - 1) own n s
 
 -- why the content is not replayed to x: the first thing that speaks against it. A receipt that is damaged does not decode or
 -- names another interval; one that is a mismatch fits nowhere that turns lead. The store's failures and want of memory are
@@ -88,10 +88,10 @@ abbrev pub Refuses : Option (ℕ × ℕ) → Content → ℕ → ReplayFault →
 Refuses whose held x NoCheckpoint = IsFree held.checkpoints 0 (x + 1)
 Refuses whose held x (Damaged y) =
     IsDamagedCheckpoint whose held x y
-    ⊎ ((own : ℕ) × (n : ℕ) × (s : Process) × ComesTo whose held x y own n s × ((r : ReceiptRecord) → IsReceiptAt held.receipts y r → ⊥))
+    ⊎ ((own : ℕ) × (n : ℕ) × (s : Process) × ContentReplaysTo whose held x y own n s × ((r : ReceiptRecord) → IsReceiptAt held.receipts y r → ⊥))
 Refuses whose held x (MissingReceipt y) = IsLeastMissing whose held x y
 Refuses whose held x (Mismatch y) =
-    (own : ℕ) × (n : ℕ) × (s : Process) × ComesTo whose held x y own n s
+    (own : ℕ) × (n : ℕ) × (s : Process) × ContentReplaysTo whose held x y own n s
     × (r : ReceiptRecord) × IsReceiptAt held.receipts y r × ((k : ℕ) (w : Process) → Turns own n k s w → FitsReceipt own n w r → ⊥)
 Refuses whose held x _ = Unit {0}
 

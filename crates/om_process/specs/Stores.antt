@@ -7,7 +7,7 @@ use Rattle.om_format.specs.declared.version.Version.TheVariants.{V2}
 use Rattle.om_stable.specs.Content.{Content, with_receipts, with_checkpoint}
 use Rattle.om_process.specs.declared.row.PendingRow.{PendingRow}
 use Rattle.om_process.specs.Process.{Process}
-use Rattle.om_process.specs.Replays.{process_of}
+use Rattle.om_process.specs.Replays.{process_of_checkpoint}
 use Rattle.om_process.specs.Core.{CoreState, LoggedRecord, cluster_size}
 
 -- the interval of the first receipt of the log, which ends with that of the present interval
@@ -41,7 +41,7 @@ flushed_first k c = record c { log = drop k c.log; pending = c.pending ++ map lo
 pub record IsOf (own : ℕ) (p : Process) (r : CheckpointRecord) : Type 0 where
   pub n : r.n ≡ cluster_size p
   pub pid : r.head.pid ≡ own
-  pub process : process_of r ≡ p
+  pub process : process_of_checkpoint r ≡ p
 
 -- the store has gained the spelling of the process as the checkpoint of its interval, and nothing else
 abbrev pub HasGainedCheckpoint : CoreState → Content → Content → Type 0

@@ -26,7 +26,7 @@ pub use replay::ReplayFault;
 pub use row::PendingRow;
 pub use start::StartFault;
 pub use status::Status;
-pub use turns::Ran;
+pub use turns::RunEnd;
 pub use witness::Witness;
 
 mod accept;

@@ -4,7 +4,7 @@ ghost use Rattle.std.specs.Prelude.{◌≡◌, ◌∷◌, [], IfOk, map, replica
 ghost use Rattle.om_format.specs.CheckpointViews.{checkpoint_record};
 ghost use Rattle.om_format.specs.Queues.{queue_end, queue_record};
 ghost use Rattle.om_process.specs.Core.{cluster_size};
-ghost use Rattle.om_process.specs.Replays.{process_of};
+ghost use Rattle.om_process.specs.Replays.{process_of_checkpoint};
 
 use crate::proc_core::ProcCore;
 use crate::queues::{Messages, Outputs};
@@ -17,7 +17,7 @@ impl ProcCore {
     // Makes the process of a checkpoint, which knows of no failure.
     pub(crate) fn restored(alloc: Global, checkpoint: Checkpoint) -> Result<ProcCore, AllocError>
         ensures own { IfOk result (λ core. core.own ≡ checkpoint.head.pid) }
-        ensures now { IfOk result (λ core. core.now ≡ process_of (checkpoint_record checkpoint)) }
+        ensures now { IfOk result (λ core. core.now ≡ process_of_checkpoint (checkpoint_record checkpoint)) }
         ensures log { IfOk result (λ core. core.log ≡ []) }
         ensures pending { IfOk result (λ core. core.pending ≡ []) }
         ensures inc { IfOk result (λ core. core.inc ≡ 0) }
@@ -48,7 +48,7 @@ impl ProcCore {
 
 // Makes the machine of a checkpoint.
 fn machine_of(alloc: Global, checkpoint: &Checkpoint) -> Result<Machine, AllocError>
-    ensures { IfOk result (λ machine. machine ≡ (process_of (checkpoint_record checkpoint.now)).machine) }
+    ensures { IfOk result (λ machine. machine ≡ (process_of_checkpoint (checkpoint_record checkpoint.now)).machine) }
 {
     let head = &checkpoint.head;
     let memory = checkpoint.memory.as_slice();

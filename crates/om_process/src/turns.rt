@@ -23,7 +23,7 @@ use std::alloc::{AllocError, Global};
 
 /// How a run of a process ended.
 #[derive(Clone, Copy, Debug, PartialEq, Eq)]
-pub struct Ran {
+pub struct RunEnd {
     /// The number of instructions that were finished.
     pub steps: u64,
     /// What the process is about to do.
@@ -163,7 +163,7 @@ impl ProcCore {
 
     /// Runs the process, at most `fuel` instructions. Where memory runs out the instructions before stand, and the send or
     /// output that was refused is still to come.
-    pub fn run(&mut self, alloc: Global, fuel: u64) -> Result<Ran, AllocError>
+    pub fn run(&mut self, alloc: Global, fuel: u64) -> Result<RunEnd, AllocError>
         ensures turns { IfOk result (λ ran. CoreTurns ran.steps self.old self.new) }
         ensures within { IfOk result (λ ran. ran.steps ≤ fuel) }
         ensures status { IfOk result (λ ran. ran.status ≡ status_of (move_of self.new)) }
@@ -184,7 +184,7 @@ impl ProcCore {
             if steps < fuel {
                 let is_refused = self.refuses(ran.event);
                 if let Some(status) = self.turn(alloc, ran.event)? {
-                    return Ok(Ran {
+                    return Ok(RunEnd {
                         steps,
                         status,
                         refused,
@@ -194,7 +194,7 @@ impl ProcCore {
                 refused += u64::from(is_refused);
             }
         }
-        Ok(Ran {
+        Ok(RunEnd {
             steps,
             status: self.status(),
             refused,

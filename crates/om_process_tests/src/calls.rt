@@ -4,7 +4,7 @@ use om_interval::{Bounds, DepVec, Pid, Tag};
 use om_isa::Ext;
 use om_machine::Cause;
 use om_machine::Cause::{BufferOutside, FetchOutside};
-use om_process::{Accept, ProcCore, Ran, StartFault, Status, laws};
+use om_process::{Accept, ProcCore, RunEnd, StartFault, Status, laws};
 use om_stable::MemStable;
 use std::alloc::Global;
 use std::process::Abort;
@@ -63,7 +63,7 @@ fn started(
     start(rt, alloc, program, size, place).expect(rt, "a start")
 }
 
-fn run(rt: &impl Abort, alloc: Global, core: &mut ProcCore, fuel: u64) -> Ran {
+fn run(rt: &impl Abort, alloc: Global, core: &mut ProcCore, fuel: u64) -> RunEnd {
     core.run(alloc, fuel).expect(rt, "memory")
 }
 
@@ -80,7 +80,7 @@ fn has_outputs(core: &ProcCore, from: u64, count: usize, bytes: &[u8]) -> bool {
 // Returns whether a process of one stopped for this cause after so many steps, with this value in x10 and nothing sent.
 fn has_stopped(
     core: &ProcCore,
-    ran: Ran,
+    ran: RunEnd,
     (steps, refused): (u64, u64),
     cause: Cause,
     value: u32,
@@ -90,7 +90,7 @@ fn has_stopped(
         && core.outbox(Pid::at(0)).is_empty()
         && (ran, core.status())
             == (
-                Ran {
+                RunEnd {
                     steps,
                     status,
                     refused,
@@ -233,7 +233,7 @@ fn sent(rt: &impl Abort, alloc: Global) -> ProcCore {
     let mut core = started(rt, alloc, SENDS_FIRST, 64, (2, 3));
     let status = Status::Ended(0);
     let refused = 0;
-    let wanted = Ran {
+    let wanted = RunEnd {
         steps: 5,
         status,
         refused,

@@ -5,7 +5,7 @@ use Rattle.om_commands.specs.declared.error.CommandError.TheVariants as errors
 use Rattle.om_files.specs.Looked.{IsErrorOfFile}
 use Rattle.om_files.specs.Quiet.{IsQuiet}
 use Rattle.om_look_commands.specs.Looks.{IsErrorIn}
-use Rattle.om_stored_debug.specs.Shown.{IsErrorOfShown as IsErrorOfShownStore}
+use Rattle.om_stored_debug.specs.Shown.{IsErrorOfShownStore as IsErrorOfShownStore}
 use Rattle.om_program.specs.Answers.{IsErrorOfDebugging, IsErrorOfShownFile}
 
 shown_of : (IsErrorOf : CommandError → Type 0) (error : CommandError) → IsErrorOf error → IsErrorOfDebugging IsErrorOf error

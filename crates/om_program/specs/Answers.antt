@@ -24,7 +24,7 @@ use Rattle.om_look.specs.Show.{IsShown}
 use Rattle.om_look_commands.specs.Looks.{IsShownWithBodies}
 use Rattle.om_run_commands.specs.Modes.{IsFollowing}
 use Rattle.om_run_commands.specs.Run.{IsErrorOfRun}
-use Rattle.om_stored_debug.specs.Shown.{IsErrorOfShown as IsErrorOfShownStore}
+use Rattle.om_stored_debug.specs.Shown.{IsErrorOfShownStore as IsErrorOfShownStore}
 use Rattle.om_run_request.specs.Asked.{IsAnswered, IsErrorOfAsked, IsRefusedRun, form_of, mode_of}
 
 -- the text is this one, or it with its rows of zeros folded

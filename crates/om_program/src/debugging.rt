@@ -6,7 +6,7 @@ ghost use Rattle.om_program.specs.Answers.{IsErrorOfShownFile};
 ghost use Rattle.om_program.specs.Refusals.{IsRefusal, names_given, names_of};
 ghost use Rattle.om_program.specs.steps.Ends.{IsRefusalOfAll, IsRefusalOfOne};
 
-use om_arguments::SymbolFile as Given;
+use om_arguments::SymbolFile;
 use om_commands::CommandError;
 use om_debug::Wish;
 use om_debug_command::{DebugError, Symbols, debug, debug_all};
@@ -27,7 +27,7 @@ pub(crate) fn debug_over<R: Threads + Wait + Copy + Send + 'static, I: Read, W: 
     rt: &HostRuntime,
     threads: &R,
     process: Option<&str>,
-    given: &[Given<'_>],
+    given: &[SymbolFile<'_>],
     input: &mut I,
     writer: &mut W,
     reasons: &mut Reasons,
@@ -117,7 +117,7 @@ fn debug_one<I: Read, P: Wish, W: Write>(
 // Answers packets about all processes, with the files that are given for their programs.
 fn debug_given<I: Read, P: Wish, W: Write>(
     alloc: Global,
-    given: &[Given<'_>],
+    given: &[SymbolFile<'_>],
     input: &mut I,
     packets: &mut P,
     writer: &mut W,
@@ -129,7 +129,7 @@ fn debug_given<I: Read, P: Wish, W: Write>(
 }
 
 // Returns the files that are given, each for its program.
-fn symbols_of(alloc: Global, given: &[Given<'_>]) -> Result<Vec<Symbols>, AllocError>
+fn symbols_of(alloc: Global, given: &[SymbolFile<'_>]) -> Result<Vec<Symbols>, AllocError>
     ensures { IfOk result (λ symbols. names_of symbols.items ≡ names_given given.now) }
 {
     let mut symbols = Vec::new(alloc);

@@ -24,15 +24,15 @@ pub record IsLater (n : ℕ) (rows : Rows) (low high : List ℕ) (attempt : Atte
 
 -- what an attempt comes to: the least recoverable state at or above its start, or, where none has the process there, the
 -- state that it began from
-pub data ComesTo (n : ℕ) (rows : Rows) (state : List ℕ) (p x : ℕ) (reached : List ℕ) : Type 0 where
-  climbs : IsClimbed n rows state p x reached → ComesTo n rows state p x reached
-  fails : ((other : List ℕ) → IsRecoverable n rows other → slice_index other p < x) → reached ≡ state → ComesTo n rows state p x reached
+pub data AttemptComesTo (n : ℕ) (rows : Rows) (state : List ℕ) (p x : ℕ) (reached : List ℕ) : Type 0 where
+  climbs : IsClimbed n rows state p x reached → AttemptComesTo n rows state p x reached
+  fails : ((other : List ℕ) → IsRecoverable n rows other → slice_index other p < x) → reached ≡ state → AttemptComesTo n rows state p x reached
 
 -- attempts, the latest first, of which each begins from what the one before it came to: from one state to another
 pub data AreInTurn (n : ℕ) (rows : Rows) (low : List ℕ) : List Attempt → List ℕ → Type 0 where
   nothing : AreInTurn n rows low [] low
   one_more : (attempt : Attempt) (earlier : List Attempt) (reached : List ℕ) → AreInTurn n rows low earlier attempt.state
-      → ComesTo n rows attempt.state attempt.pid attempt.interval reached → AreInTurn n rows low (attempt ∷ earlier) reached
+      → AttemptComesTo n rows attempt.state attempt.pid attempt.interval reached → AreInTurn n rows low (attempt ∷ earlier) reached
 
 -- the attempts of a search that raised one state to another: the first climbs from the state, from the interval given;
 -- each later one begins from what was reached by then; and there are at most n of them for each interval by which the
@@ -43,7 +43,7 @@ pub record IsSearched (n : ℕ) (rows : Rows) (state : List ℕ) (p x : ℕ) (ra
   pub reached : List ℕ
   pub added : new ≡ made ++ record { pid = p; interval = x; state = state; looks = looks } ∷ old
   pub first : AreLooks rows state p x looks
-  pub comes : ComesTo n rows state p x reached
+  pub comes : AttemptComesTo n rows state p x reached
   pub turns : AreInTurn n rows reached made raised
   pub few : length made ≤ n * (sum raised - sum state)
   pub later : All (IsLater n rows state raised) made

@@ -2,7 +2,7 @@
 use Rattle.std.specs.Prelude.{ℕ, ◌+◌, ◌||◌, ◌&&◌, ◌==◌, List, [], ◌∷◌, take, drop, nat_le, position, Option, Some, None, if◌then◌else◌, codes}
 use Rattle.std.specs.Str.{bytes_eq}
 use Rattle.om_requests.specs.Numbers.{hex_number}
-use Rattle.om_requests.specs.Requests.{request_by, resume_request, thread_of, words_of}
+use Rattle.om_requests.specs.Requests.{request_by, resume_request, thread_of, packet_words}
 use Rattle.om_requests.specs.declared.group.GroupRequest.{GroupRequest}
 use Rattle.om_requests.specs.declared.group.GroupRequest.TheVariants as groups
 use Rattle.om_requests.specs.declared.group.Whom.{Whom}
@@ -128,4 +128,4 @@ or_other (Some request) other = request
 or_other None other = groups.Other other
 
 abbrev pub group_request_of : List ℕ → GroupRequest
-group_request_of packet = or_other (group_by (words_of packet)) (request_by (words_of packet))
+group_request_of packet = or_other (group_by (packet_words packet)) (request_by (packet_words packet))

@@ -22,8 +22,8 @@ abbrev pub is_mark : ℕ → Bool
 is_mark byte = (byte == 44) || (byte == 58) || (byte == 59)
 
 -- the words of a packet, of which some are empty
-abbrev pub words_of : List ℕ → List (List ℕ)
-words_of packet = slice_split is_mark packet
+abbrev pub packet_words : List ℕ → List (List ℕ)
+packet_words packet = slice_split is_mark packet
 
 -- what is asked with two numbers
 abbrev pub with_two : (ℕ → ℕ → Request) → Option ℕ → Option ℕ → Request
@@ -182,4 +182,4 @@ request_by [] = requests.Unknown
 request_by (first ∷ rest) = if bytes_eq first (codes "qRcmd") then monitor_request rest else by_word first rest
 
 abbrev pub request_of : List ℕ → Request
-request_of packet = request_by (words_of packet)
+request_of packet = request_by (packet_words packet)

@@ -8,7 +8,7 @@ ghost use Rattle.om_requests.specs.Groups.{any_or, behind_action, by_group_lette
 use crate::numbers::hex_number;
 use crate::reading::{request_by, resume_request, thread_of};
 use crate::request::{Request, Resume, Thread};
-use crate::words::words_of;
+use crate::words::packet_words;
 use std::alloc::{AllocError, Global};
 
 /// Who of a group is meant.
@@ -45,7 +45,7 @@ pub enum GroupRequest {
 pub fn group_request_of(alloc: Global, packet: &[u8]) -> Result<GroupRequest, AllocError>
     ensures { IfOk result (λ request. request ≡ group_request_of packet.now) }
 {
-    let words = words_of(alloc, packet)?;
+    let words = packet_words(alloc, packet)?;
     match group_by(&words) {
         Some(request) => Ok(request),
         None => Ok(GroupRequest::Other(request_by(alloc, &words)?)),

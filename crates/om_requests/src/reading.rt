@@ -5,7 +5,7 @@ ghost use Rattle.om_requests.specs.Requests.{break_at, break_request, by_letter,
 
 use crate::numbers::hex_number;
 use crate::request::{Command, Request, Resume, Thread, Watch, Watched};
-use crate::words::words_of;
+use crate::words::packet_words;
 use hex::FromHexError;
 use om_text::number_of;
 use std::alloc::{AllocError, Global};
@@ -14,7 +14,7 @@ use std::alloc::{AllocError, Global};
 pub fn request_of(alloc: Global, packet: &[u8]) -> Result<Request, AllocError>
     ensures { IfOk result (λ request. request ≡ request_of packet.now) }
 {
-    let words = words_of(alloc, packet)?;
+    let words = packet_words(alloc, packet)?;
     request_by(alloc, &words)
 }
 

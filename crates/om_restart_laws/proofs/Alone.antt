@@ -16,7 +16,7 @@ use Rattle.om_member.specs.Told.{row_for}
 use Rattle.om_process.specs.Claims.{AtInterval, CheckpointOf, Makes, RecordOf}
 use Rattle.om_process.specs.Core.{CoreState}
 use Rattle.om_process.specs.Process.{Program}
-use Rattle.om_process.specs.Replays.{process_of}
+use Rattle.om_process.specs.Replays.{process_of_checkpoint}
 use Rattle.om_process.specs.Stored.{IsCheckpointAt, IsReceiptAt}
 use Rattle.om_process.specs.declared.limits.TheConstants.{LAST_INTERVAL}
 use Rattle.om_process.specs.declared.queues.Made.{Made}
@@ -142,7 +142,7 @@ module _ (programs : List Program) (live : List Entry) (state : List ℕ) (conte
   as_checkpoint : (p : ℕ) (t : PendingRow) → p < length programs → IsRecorded p (length programs) (content_of contents p) t → t.ckpt ≡ true → t.x ≤ recovered m p → HasRecord over p (content_of contents p) Checkpoint t.x
   as_checkpoint p t lt r is le =
       let c = r.checkpoint is in
-      (c.1.0, c.1.1, c.0, c.1.2, c.2, c.3, cut_fact m.recovery live p t.x (CheckpointOf (program_at programs p) p (length programs) (process_of c.0)) le (l.records.checkpoints p t.x c.0 lt c.1))
+      (c.1.0, c.1.1, c.0, c.1.2, c.2, c.3, cut_fact m.recovery live p t.x (CheckpointOf (program_at programs p) p (length programs) (process_of_checkpoint c.0)) le (l.records.checkpoints p t.x c.0 lt c.1))
 
   as_receipt : (p : ℕ) (t : PendingRow) → p < length programs → IsRecorded p (length programs) (content_of contents p) t → t.ckpt ≡ false → t.x ≤ recovered m p → HasRecord over p (content_of contents p) Log t.x
   as_receipt p t lt r is le =

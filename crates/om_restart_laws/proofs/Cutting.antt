@@ -5,7 +5,7 @@ use Rattle.std.specs.FinMap.{get, retain_keys}
 use Rattle.std.proofs.lemmas.Bool.Decides.{nat_tests}
 use Rattle.om_process.specs.Claims.{AtInterval, CheckpointOf, RecordOf}
 use Rattle.om_process.specs.Process.{Program, Received}
-use Rattle.om_process.specs.Replays.{process_of}
+use Rattle.om_process.specs.Replays.{process_of_checkpoint}
 use Rattle.om_stable.specs.Content.{Content, Records, kept_by_cut}
 use Rattle.om_stable.proofs.RecordLemmas.{get-retained}
 use Rattle.om_world.specs.Live.{cut_list, program_at, received}
@@ -32,7 +32,7 @@ pub cut_true : (programs : List Program) (live : List Entry) (held : ℕ → Con
 cut_true programs live held s disk = record {
   checkpoints = λ p x c lt at.
       let was = of_cut (held p).checkpoints (slice_index s p) x at.0 at.1 in
-      cut_fact s live p x (CheckpointOf (program_at programs p) p (length programs) (process_of c)) was.0 (disk.checkpoints p x c lt (at.0, was.1, at.2, at.3));
+      cut_fact s live p x (CheckpointOf (program_at programs p) p (length programs) (process_of_checkpoint c)) was.0 (disk.checkpoints p x c lt (at.0, was.1, at.2, at.3));
   receipts = λ p x r lt begun at.
       let was = of_cut (held p).receipts (slice_index s p) x at.0 at.1 in
       cut_fact s live p x (RecordOf (program_at programs p) p (length programs) r) was.0 (disk.receipts p x r lt begun (at.0, was.1, at.2, at.3));

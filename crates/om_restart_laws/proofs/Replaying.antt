@@ -7,7 +7,7 @@ use Rattle.om_format.specs.Receipts.{ReceiptRecord}
 use Rattle.om_process.specs.Claims.{AtInterval, CheckpointOf, RecordOf}
 use Rattle.om_process.specs.Core.{CoreState, cluster_size}
 use Rattle.om_process.specs.Process.{Program, Received}
-use Rattle.om_process.specs.Replays.{Replayed, process_of, received_of}
+use Rattle.om_process.specs.Replays.{Replayed, process_of_checkpoint, received_of}
 use Rattle.om_process.specs.Stored.{AreReceiptsAfter, IsReceiptAt, IsReplay}
 use Rattle.om_process.specs.steps.Pieces.{receipts_of}
 use Rattle.om_process.proofs.Replays.{replayed_along}
@@ -42,9 +42,9 @@ replay_along programs live held s p core disk lt own size replay =
     let program : Program = program_at programs p in
     let h : List Received = received p live in
     let c = replay.checkpoint in
-    let begun : CheckpointOf program p n (process_of c) (take c.head.interval h) = (disk.checkpoints p c.head.interval c lt replay.begins.stored).1 in
-    let done : Replayed p n (process_of c) replay.receipts core.now = subst (λ m. Replayed p m (process_of c) replay.receipts core.now) size (subst (λ o. Replayed o (cluster_size core.now) (process_of c) replay.receipts core.now) own replay.replayed) in
-    let ends = replayed_along program p n (process_of c) core.now (take c.head.interval h) replay.receipts begun done in
+    let begun : CheckpointOf program p n (process_of_checkpoint c) (take c.head.interval h) = (disk.checkpoints p c.head.interval c lt replay.begins.stored).1 in
+    let done : Replayed p n (process_of_checkpoint c) replay.receipts core.now = subst (λ m. Replayed p m (process_of_checkpoint c) replay.receipts core.now) size (subst (λ o. Replayed o (cluster_size core.now) (process_of_checkpoint c) replay.receipts core.now) own replay.replayed) in
+    let ends = replayed_along program p n (process_of_checkpoint c) core.now (take c.head.interval h) replay.receipts begun done in
     let whole : take c.head.interval h ++ receipts_of replay.receipts ≡ take (slice_index s p) h =
     receipts_along program p n h (held p).receipts c.head.interval replay.receipts (λ x r begun at. disk.receipts p x r lt begun at) replay.stored ∙ ap (λ k. take k h) (sym replay.last) in
     subst (CheckpointOf program p n core.now) (whole ∙ sym (cut_first s live p)) ends

@@ -91,10 +91,10 @@ answer_of_others modes.Witness form over_clean statuses script kills text is = i
 answer_of_others modes.Record form over_clean statuses script kills text is = is
 answer_of_others modes.Follow form over_clean statuses script kills text is = (
   record {
-    report = is.0.report;
-    is_report = is.0.is_report;
+    statuses = is.0.statuses;
+    front = is.0.front;
     told = is.0.told;
-    tells_all = is.0.tells_all;
+    is_told = is.0.is_told;
     is_text = is.0.is_text;
   },
   is.1,
@@ -109,9 +109,9 @@ answer_of_others (modes.FollowRaw name) form over_clean statuses script kills te
   is.0,
   is.1,
   record {
-    report = is.2.report;
-    is_report = is.2.is_report;
-    ended = is.2.ended;
+    front = is.2.front;
+    told = is.2.told;
+    is_told = is.2.is_told;
     is_text = is.2.is_text;
   },
 )

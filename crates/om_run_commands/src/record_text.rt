@@ -2,7 +2,7 @@
 
 use crate::event_text::push_line;
 use om_commands::{name_of, push_state};
-use om_interval::Pid;
+use om_interval::{DepVec, Pid};
 use om_runner::{Act, Letter, Record};
 use om_scripts::Programs;
 use om_world::Event;
@@ -10,24 +10,48 @@ use std::alloc::{AllocError, Global};
 use std::collections::BTreeMap;
 use std::fmt::Write;
 
-// The frames that were made, with their numbers: by sender, receiver, incarnation and number of the message.
+// The frames that were made and may still be given, with their numbers: by sender, receiver, incarnation and number of the message.
 #[derive(Drop)]
-struct Frames {
+pub(crate) struct Frames {
     numbers: BTreeMap<(Pid, Pid, u32, u32), usize>,
     made: usize,
 }
 
 impl Frames {
-    fn new(alloc: Global) -> Frames {
+    // Makes those of a run that is to begin.
+    pub(crate) fn new(alloc: Global) -> Frames {
         Frames {
             numbers: BTreeMap::new(alloc),
             made: 0,
         }
     }
 
-    // Numbers one more frame. If there was one of the same message and incarnation, this one stands for both.
-    fn make(&mut self, letter: Letter) -> Result<(), AllocError> {
+    // Returns the frame of the least number of this sender, receiver and incarnation.
+    fn oldest(&self, from: Pid, to: Pid, inc: u32) -> Option<(Pid, Pid, u32, u32)> {
+        let (found, _) = self.numbers.range((from, to, inc, 0)..).next()?;
+        if found.0 == from && found.1 == to && found.2 == inc {
+            return Some((from, to, inc, found.3));
+        }
+        None
+    }
+
+    // Drops those messages of the sender to the receiver, in this incarnation, that have lower numbers: they are not given any more.
+    fn forget(&mut self, from: Pid, to: Pid, inc: u32, kept: u32) {
+        for _ in 0..self.numbers.len() {
+            let Some(oldest) = self.oldest(from, to, inc) else {
+                return;
+            };
+            if oldest.3 >= kept {
+                return;
+            }
+            self.numbers.remove(&oldest);
+        }
+    }
+
+    // Numbers one more frame, and drops what is below `kept`. If there was one of the same message and incarnation, this one stands for both.
+    fn make(&mut self, letter: Letter, kept: u32) -> Result<(), AllocError> {
         let Letter { from, to, inc, ssn } = letter;
+        self.forget(from, to, inc, kept);
         self.numbers.insert((from, to, inc, ssn), self.made)?;
         self.made = self.made.saturating_add(1);
         Ok(())
@@ -94,12 +118,12 @@ fn event_at(act: Act) -> Option<Event> {
     }
 }
 
-// Writes what a person looks for before an act, if it is of that kind.
+// Writes what a person looks for before an act, if it is of that kind; a round that it finishes has this recovery state.
 fn push_comment(
     text: &mut String,
     programs: &Programs,
-    record: &Record,
     act: Act,
+    recovery: Option<&DepVec>,
 ) -> Result<(), AllocError> {
     match act {
         Act::Fail { process, interval } => {
@@ -117,15 +141,15 @@ fn push_comment(
                 "# {name} goes back to {interval}, incarnation {inc}\n"
             )
         }
-        Act::Finish { round } => push_finish(text, record, round),
+        Act::Finish { round } => push_finish(text, round, recovery),
         _ => Ok(()),
     }
 }
 
 // Writes that a round is finished.
-fn push_finish(text: &mut String, record: &Record, round: u32) -> Result<(), AllocError> {
+fn push_finish(text: &mut String, round: u32, recovery: Option<&DepVec>) -> Result<(), AllocError> {
     write!(text, "# round {round} is finished")?;
-    match record.recoveries.get((round as usize).saturating_sub(1)) {
+    match recovery {
         Some(recovery) => {
             text.push_str(": recovery")?;
             push_state(text, recovery)
@@ -134,22 +158,40 @@ fn push_finish(text: &mut String, record: &Record, round: u32) -> Result<(), All
     }
 }
 
-// Returns the events of a record, a line for each, and comments between them.
-pub(crate) fn record_text(
-    alloc: Global,
-    programs: &Programs,
-    record: &Record,
-) -> Result<String, AllocError> {
-    let mut text = String::new(alloc);
-    let mut frames = Frames::new(alloc);
-    for act in &record.acts {
-        push_comment(&mut text, programs, record, *act)?;
-        if let Act::Send { letter } = *act {
-            frames.make(letter)?;
+impl Frames {
+    // Writes an act: a comment before it, where a person looks for one, and its event, if it is one.
+    fn push_act(
+        &mut self,
+        text: &mut String,
+        programs: &Programs,
+        act: &Act,
+        recovery: Option<&DepVec>,
+    ) -> Result<(), AllocError> {
+        push_comment(text, programs, *act, recovery)?;
+        if let Act::Send { letter, kept } = *act {
+            self.make(letter, kept)?;
         }
-        if let Some(event) = frames.event_of(*act) {
-            push_line(&mut text, event)?;
+        if let Some(event) = self.event_of(*act) {
+            push_line(text, event)?;
         }
+        Ok(())
     }
-    Ok(text)
+
+    // Returns the events of a part of a record, which follows on the one before: a line for each, and comments between them.
+    pub(crate) fn part_text(
+        &mut self,
+        alloc: Global,
+        programs: &Programs,
+        part: &Record,
+    ) -> Result<String, AllocError> {
+        let mut text = String::new(alloc);
+        let mut finished: usize = 0;
+        for act in &part.acts {
+            self.push_act(&mut text, programs, act, part.recoveries.get(finished))?;
+            if matches!(act, Act::Finish { .. }) {
+                finished = finished.saturating_add(1);
+            }
+        }
+        Ok(text)
+    }
 }

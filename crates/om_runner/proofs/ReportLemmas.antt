@@ -1,5 +1,5 @@
 -- What a report is made of.
-use Rattle.std.proofs.Common.{◌≡◌, inl, inr, ℕ, suc, ◌+◌, ◌<◌, ◌≤◌, List, [], ◌∷◌, ◌++◌, Some, sym, ap, ◌∙◌, subst, arith, get_or, length, map, IsTrue, Bool}
+use Rattle.std.proofs.Common.{◌≡◌, inl, inr, ℕ, zero, suc, ◌+◌, ◌<◌, ◌≤◌, List, [], ◌∷◌, ◌++◌, Some, sym, ap, ◌∙◌, subst, arith, get_or, length, map, IsTrue, Bool}
 use Rattle.std.specs.Prelude.{All, Vec, slice_get, Ok, Err, Option, None, Result, IfOk}
 use Rattle.std.specs.declared.alloc.Global.{Global}
 use Rattle.std.proofs.lemmas.List.{length-map}
@@ -7,7 +7,7 @@ use Rattle.std.proofs.lemmas.Option.{get_or_from_slice_get, same_Some, slice_get
 use Rattle.om_process.specs.Images.{program_of}
 use Rattle.om_process.specs.declared.image.Image.{Image}
 use Rattle.om_process.specs.declared.status.Status.{Status}
-use Rattle.om_board.proofs.ListLemmas.{map_get, map_had, more_had}
+use Rattle.om_board.proofs.ListLemmas.{map_get, map_had, more_had, none_in}
 use Rattle.om_manager.specs.declared.output_log.Output.{Output}
 use Rattle.om_process.specs.Process.{Program}
 use Rattle.om_report.specs.Released.{AreAllMade, AreAllReleased}
@@ -27,12 +27,12 @@ use Rattle.om_runner.specs.declared.results.Parts.{Parts}
 use Rattle.om_runner.specs.steps.Ends.{AreEndsOf, AreParts}
 use Rattle.om_worker.specs.Ends.{IsEndOf}
 use Rattle.om_report.specs.Harvests.{AreOwn, HarvestState, harvested}
-use Rattle.om_report.specs.Following.{AreAllCopied, AreTold, IsTold, copied_of}
+use Rattle.om_report.specs.Following.{AreAllCopied, AreTold, IsTold, copied_of, fresh_of}
 use Rattle.om_report.specs.Telling.{AreToldWithin, Told, of_process}
 use Rattle.om_report.specs.declared.followed_outputs.FollowedOutputs.{FollowedOutputs}
 use Rattle.om_report.specs.declared.follower.FollowFault.{FollowFault}
 use Rattle.om_report.specs.declared.report.FollowedReport.{FollowedReport}
-use Rattle.om_report.proofs.FollowLemmas.{none_of, told_partly, told_to_end, told_within}
+use Rattle.om_report.proofs.FollowLemmas.{none_of, told_to_end, told_within}
 use Rattle.om_worker_parts.specs.Network.{ArePuts, AreTakes, IsNetwork, Lines}
 use Rattle.om_runner.specs.steps.Settling.{ArePasses}
 use Rattle.om_worker_parts.specs.Wiring.{HasEnds, IsWired}
@@ -210,6 +210,12 @@ whole_report is_clean over_clean programs n images released statuses front store
       last = (under.0, subst (λ m. IsBoard m under.0) n_is under.2, under.3.0);
     }
 
+-- an element of a list stands there too where more comes behind it
+had_before : {A : Type 0} (xs ys : List A) (i : ℕ) (x : A) → slice_get xs i ≡ Some x → slice_get (xs ++ ys) i ≡ Some x
+had_before [] ys i x at = absurd (none_in i x at)
+had_before (y ∷ xs) ys zero x at = at
+had_before (y ∷ xs) ys (suc i) x at = had_before xs ys i x at
+
 -- what a follower was told, to its end, is no less than all workers brought back
 pub told_report : {F K S : Type 0} (Tells : F → F → List Told → Type 0) (is_clean : S → Bool) (over_clean : Type 0) (programs : List Program) (n : ℕ) (images : List Image) (lines : Lines)
     (parts : Parts K S) (harvests : Vec HarvestState Global) (statuses : Vec Status Global) (start : F) (lanes : List FollowedOutputs) (now : F) (front : Front)
@@ -224,7 +230,7 @@ told_report Tells is_clean over_clean programs n images lines parts harvests sta
   record {
     processes = ap (λ (v : Vec Status Global). length v.items) same_statuses ∙ are.statuses ∙ as_many;
     ended = subst (λ (v : Vec Status Global). All IsEnd v.items) (sym same_statuses) are.ended;
-    in_order = (told_partly Tells over_clean programs n front.vec start lanes now is).2;
+    in_order = λ p i t at. is.in_order p i t (had_before (of_process p is.told) (fresh_of p (slice_get lanes p)) i t at);
     made = λ over. subst (λ k. AreToldWithin programs k front.vec is.told) n_is (told_within Tells over_clean programs n front.vec start lanes now is over);
     all = λ over p program status at_program at_status.
         let inside = slice_get_within programs p program at_program in
@@ -238,9 +244,9 @@ told_report Tells is_clean over_clean programs n images lines parts harvests sta
                   whole_always is_clean programs images parts.statuses.items few parts.stores.items same are.stores are.whole (clean over) p program status low.0 at_program there low.2,
                   subst (λ k. length low.0.items ≤ k) (sym copied) less,
                 )
-            | inr past ↦ let l = past.0 in absurd (omega arith)
+            | inr past ↦ let l = past.0 in absurd (omega (arith, n_is))
           ]
-          | inr past ↦ let l = past.0 in absurd (omega arith)
+          | inr past ↦ let l = past.0 in absurd (omega (arith, of_few))
         ];
     others = λ p past. none_of (of_process p is.told) (told_to_end Tells over_clean programs n front.vec start lanes now is ends p ∙ zero_past p past);
   },
@@ -263,7 +269,7 @@ told_report Tells is_clean over_clean programs n images lines parts harvests sta
 
     zero_past : (p : ℕ) → length programs ≤ p → copied_of (slice_get lanes p) ≡ 0
     zero_past p past = elim (slice_get_cases lanes p).1 [
-      | inl lane ↦ let lt = lane.1 in absurd (omega arith)
+      | inl lane ↦ let lt = lane.1 in absurd (omega (arith, n_is))
       | inr none ↦ ap copied_of none.1
     ]
 

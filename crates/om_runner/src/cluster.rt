@@ -20,7 +20,7 @@ use crate::settle::settle_all;
 use crate::starting::run_scoped;
 use om_board::{Blank, Naming, Pass, TakePass};
 use om_interval::MAX_PROCESSES;
-use om_observers::{Observers, Recorder};
+use om_observers::Observers;
 use om_process::{Status, Witness};
 use om_report::{Harvest, Report, RunFault, gathered_in};
 use om_worker::{Cluster, ground_of};
@@ -61,8 +61,8 @@ pub(crate) fn run_workers<
     }
 }
 
-// Returns how all ended, their outputs and their stores, once the inboxes are settled; what each process did; and the ends by which
-// each takes.
+// Returns the statuses, the outputs and the stores of all processes, once the inboxes are settled; what each process did; and the ends of
+// inboxes by which each takes messages.
 pub(crate) fn settled<K: Naming, R: Wait, G, O: Opener<R>>(
     cluster: &Cluster<'_, K, R, G, O>,
     parts: Parts<K, O::Store>,
@@ -92,8 +92,8 @@ pub(crate) fn settled<K: Naming, R: Wait, G, O: Opener<R>>(
 }
 
 // Settles the inboxes, and makes the report of what the workers brought back and of the last front. The stores stand beside it,
-// what each process did, and the ends by which each took.
-fn close<K: Naming, R: Wait, G: Gate, O: Opener<R>>(
+// what each process did, and the ends of inboxes by which each took messages.
+pub(crate) fn close<K: Naming, R: Wait, G: Gate, O: Opener<R>>(
     cluster: &Cluster<'_, K, R, G, O>,
     parts: Parts<K, O::Store>,
 ) -> Result<(Report, Vec<O::Store>, Vec<Witness>, Vec<Vec<TakePass>>), RunFault>
@@ -241,41 +241,6 @@ pub fn run_and_keep_witnesses<
         blank,
     )?;
     Ok((report, witnesses))
-}
-
-/// Runs a cluster as [`run_cluster`] does, while `recorder` takes in what its threads do. A process then notes what it stored before
-/// it runs on. What was taken in of a run that is refused stands in the recorder.
-pub fn run_and_record<R: Threads + Wait + Clock + Sync, G: Gate + Sync, O: Opener<R> + Sync>(
-    rt: &R,
-    alloc: Global,
-    config: &Config,
-    gate: &G,
-    opener: &O,
-    recorder: &Recorder,
-) -> Result<Report, RunFault>
-    requires some { 1 ≤ length config.now.images.items }
-    requires few { length config.now.images.items ≤ MAX_PROCESSES }
-    ensures report { IfOk result (IsWholeReport (AreAlwaysClean O.Store.is_clean) (map program_of config.now.images.items)) }
-    ensures given { OnOk result (IsGiven config.now) }
-    ensures fault { IfErr result (IsFaultOf (length config.now.images.items)) }
-{
-    let Ok(blank) = Blank::new(alloc, config.images.len()) else {
-        return Err(RunFault::Memory);
-    };
-    let (report, _, _) = run_named::<Brand, R, G, O>(
-        rt,
-        alloc,
-        config,
-        gate,
-        opener,
-        Observers {
-            recorder: Some(recorder),
-            watch: opener.watch(),
-            ..Observers::none()
-        },
-        blank,
-    )?;
-    Ok(report)
 }
 
 /// Runs a cluster, a thread for each process, until all have ended or trapped and all output that they made is released. Each

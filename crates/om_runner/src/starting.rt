@@ -59,12 +59,12 @@ fn start<
     image: &'s Image,
     job: Job<'s, K, J, O::Store>,
 ) -> Option<Handle<'s, K, O::Store>>
-    requires program { slice_get K.programs job.links.own ≡ Some (program_of image.now) }
+    requires program { slice_get K.programs job.links.ends.own ≡ Some (program_of image.now) }
     requires clean { K.OverClean → AreAlwaysClean O.Store.is_clean }
     ensures config { IfSome result (λ h. h.promise.config.now ≡ cluster.entry.now.config.now) }
     ensures image { IfSome result (λ h. h.promise.image.now ≡ image.entry.now) }
-    ensures inboxes { IfSome result (λ h. h.promise.inboxes.now ≡ job.entry.links.lines) }
-    ensures own { IfSome result (λ h. h.promise.own ≡ job.entry.links.own) }
+    ensures inboxes { IfSome result (λ h. h.promise.inboxes.now ≡ job.entry.links.ends.lines) }
+    ensures own { IfSome result (λ h. h.promise.own ≡ job.entry.links.ends.own) }
     ensures n { IfSome result (λ h. h.promise.n ≡ K.cell.n) }
 {
     let end = EndOf {
@@ -79,7 +79,7 @@ fn start<
         .spawn_with(
             end,
             move ||
-                requires program { slice_get K.programs job.links.own ≡ Some (program_of image.now) }
+                requires program { slice_get K.programs job.links.ends.own ≡ Some (program_of image.now) }
                 requires clean { K.OverClean → AreAlwaysClean O.Store.is_clean }
             { work_or_stop(cluster, image, job) },
         )
@@ -135,14 +135,14 @@ fn start_apart<
     pass: Pass<K>,
     opened: Opened<SentStore<O::Store>>,
 ) -> Option<Handle<'s, K, O::Store>>
-    requires sized { links.n ≡ K.cell.n }
-    requires program { slice_get K.programs links.own ≡ Some (program_of image.now) }
+    requires sized { links.ends.n ≡ K.cell.n }
+    requires program { slice_get K.programs links.ends.own ≡ Some (program_of image.now) }
     requires clean { K.OverClean → AreAlwaysClean O.Store.is_clean }
     requires book { opened.seen.book ≡ J.book }
     ensures config { IfSome result (λ h. h.promise.config.now ≡ cluster.entry.now.config.now) }
     ensures image { IfSome result (λ h. h.promise.image.now ≡ image.entry.now) }
-    ensures inboxes { IfSome result (λ h. h.promise.inboxes.now ≡ links.entry.lines) }
-    ensures own { IfSome result (λ h. h.promise.own ≡ links.entry.own) }
+    ensures inboxes { IfSome result (λ h. h.promise.inboxes.now ≡ links.entry.ends.lines) }
+    ensures own { IfSome result (λ h. h.promise.own ≡ links.entry.ends.own) }
     ensures n { IfSome result (λ h. h.promise.n ≡ K.cell.n) }
 {
     let channel = started_channel::<E, K, J, R, G, O>(scope, cluster, links.own(), opened)?;

@@ -1,6 +1,7 @@
 use crate::clusters::{Always, assert_ring, ring};
+use crate::scribes::Keeper;
 use om_interval::Pid;
-use om_runner::{Act, Config, OpenFault, Opener, Record, Recorder, Report, run_and_record};
+use om_runner::{Act, Config, OpenFault, Opener, Record, Report, run_and_record};
 use om_stable::{Ledger, LedgerTable, MemStable, Stable, StoreError, WriteBatch};
 use std::alloc::Global;
 use std::process::Abort;
@@ -182,9 +183,11 @@ fn recorded<R: Threads + Wait + Clock + Abort + Sync>(
         slow: Pid::at(slow as usize),
         seen,
     };
-    let recorder = Recorder::new(alloc);
-    let told = run_and_record(rt, alloc, config, &Always(true), &opener, &recorder);
-    (told.expect(rt, "a report"), recorder.into_record())
+    let keeper = Keeper::new(alloc);
+    let (told, keeper) = run_and_record(rt, alloc, config, &Always(true), &opener, keeper);
+    let Keeper { record, has_gaps } = keeper;
+    assert!(rt; !has_gaps);
+    (told.expect(rt, "a report"), record)
 }
 
 // Returns whether nothing stands between the end of a round and the last of n returns but returns, and what is sent once more

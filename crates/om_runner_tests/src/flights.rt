@@ -1,9 +1,10 @@
 //! Clusters whose processes go on while what they store is written.
 
 use crate::clusters::{Always, assert_ring, ring};
+use crate::scribes::Keeper;
 use om_interval::Pid;
 use om_runner::{
-    Act, Config, OpenFault, Opener, Record, Recorder, Report, RunFault, run_and_record, run_cluster,
+    Act, Config, OpenFault, Opener, Record, Report, RunFault, run_and_record, run_cluster,
 };
 use om_stable::{FuseStable, Ledger, LedgerTable, MemStable, Stable, StoreError, WriteBatch};
 use std::alloc::Global;
@@ -207,9 +208,11 @@ fn recorded<R: Threads + Wait + Clock + Abort + Sync>(
         pid: Pid::at(0),
         calls: u64::MAX,
     };
-    let recorder = Recorder::new(alloc);
-    let told = run_and_record(rt, alloc, config, &Always(true), &opener, &recorder);
-    (told.expect(rt, "a report"), recorder.into_record())
+    let keeper = Keeper::new(alloc);
+    let (told, keeper) = run_and_record(rt, alloc, config, &Always(true), &opener, keeper);
+    let Keeper { record, has_gaps } = keeper;
+    assert!(rt; !has_gaps);
+    (told.expect(rt, "a report"), record)
 }
 
 // Returns whether checkpoints are told as they are spelled, one of process p among them, and nothing of it is told as stored

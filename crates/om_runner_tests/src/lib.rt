@@ -12,6 +12,8 @@ mod checked_restarts;
 #[cfg(test)]
 mod clusters;
 #[cfg(test)]
+mod ended;
+#[cfg(test)]
 mod flights;
 #[cfg(test)]
 mod inboxes;
@@ -23,6 +25,8 @@ mod resends;
 mod restarts;
 #[cfg(test)]
 mod rows;
+#[cfg(test)]
+mod scribes;
 #[cfg(test)]
 mod threads;
 #[cfg(test)]

@@ -1,10 +1,15 @@
 //! The files of a cluster behind its run.
 
+ghost use Rattle.std.specs.Prelude.{IsTrue};
+
 use crate::names::{is_written, log_of, store_of};
 use crate::options::connection_options;
-use sqlite::{Connection, FileStore};
-use sqlite_std_file::{File, Unknown, open};
-use std::alloc::AllocError;
+use sqlite::Options;
+use sqlite_disk::{Disk, Files};
+use sqlite_pager::Pager;
+use sqlite_std_file::{Unknown, open};
+use sqlite_wal::probe_page_size;
+use std::alloc::{AllocError, Global};
 use std::fs;
 use std::thread::{Threads, map_indices};
 
@@ -28,17 +33,29 @@ fn settle_one(rt: &HostRuntime, prefix: &str, process: usize) -> Result<(), Allo
     if !is_written(rt, &log) {
         return Ok(());
     }
-    if let Some(conn) = connected(rt, file.as_str()) {
-        if conn.close().is_ok() {
+    let Some(options) = connection_options(rt) else {
+        return Ok(());
+    };
+    if let Ok(files) = open(rt, file.as_str(), Unknown) {
+        // As long as they are open nobody else has them.
+        if let Some(_pages) = copied(rt.alloc(), files, options) {
             let _ = fs::remove_file(rt, log.as_str());
         }
     }
     Ok(())
 }
 
-// Opens the database of a store, with the small cache that its run had.
-fn connected(rt: &HostRuntime, file: &str) -> Option<Connection<FileStore<File>>> {
-    let options = connection_options(rt)?;
-    let pair = open(rt, file, Unknown).ok()?;
-    Connection::open_files(rt.alloc(), pair, options).ok()
+// Copies the log of a database into its file, and returns the pages where all of them are there. What stands in them is no matter
+// here, so the database itself is not opened.
+fn copied<D: Disk + Drop>(alloc: Global, mut files: Files<D>, options: Options) -> Option<Pager<D>>
+    requires log { IsTrue (D.Disk.is_usable files.log) }
+    requires db { IsTrue (D.Disk.is_usable files.db) }
+{
+    let Ok(Some(size)) = probe_page_size(&mut files) else {
+        return None;
+    };
+    let mut pager = Pager::new(alloc, files, size, options).ok()?;
+    pager.recover().ok()?;
+    pager.checkpoint().ok()?;
+    Some(pager)
 }

@@ -17,7 +17,7 @@ use Rattle.om_look_commands.specs.Looks.{IsErrorIn, IsSoIn}
 use Rattle.om_stable.specs.Content.{Content}
 use Rattle.om_tables.specs.Store.{HasFiveTables, Holds, IsFormed, content_in}
 use Rattle.om_tables.specs.Tables.{store_schema}
-use Rattle.om_stored_debug.specs.Shown.{IsErrorOfShown, IsErrorOfStore, IsShown}
+use Rattle.om_stored_debug.specs.Shown.{IsErrorOfShownStore, IsErrorOfStore, IsShown}
 use Rattle.om_stored_debug.specs.steps.Errors.{IsErrorOfServing}
 use Rattle.om_stored_debug.proofs.Showing.{serving_shown, store_shown}
 
@@ -91,10 +91,10 @@ served_in (Ok x) file log interval d had left before after shown served = (shown
 served_in (Err e) file log interval d had left before after shown served = tt
 
 pub serving_in : (file log : List ℕ) (interval : Option ℕ) (d : DebugState) (error : CommandError) → IsSoIn file log (λ held. IsShown held interval d) → IsErrorOfServing error
-    → IsErrorIn file log (λ held. IsErrorOfShown held interval) error
+    → IsErrorIn file log (λ held. IsErrorOfShownStore held interval) error
 serving_in file log interval d error shown why = inr (shown.0, shown.1, λ two. serving_shown (content_in shown.0) interval error why)
 
 pub refused_in : (file log : List ℕ) (interval : Option ℕ) (error : CommandError) → IsErrorIn file log (λ held. IsErrorOfStore held interval) error
-    → IsErrorIn file log (λ held. IsErrorOfShown held interval) error
+    → IsErrorIn file log (λ held. IsErrorOfShownStore held interval) error
 refused_in file log interval error (inl known) = inl known
 refused_in file log interval error (inr so) = inr (so.0, so.1, λ two. store_shown (content_in so.0) interval error (so.2 two))

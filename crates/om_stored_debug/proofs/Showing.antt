@@ -14,7 +14,7 @@ use Rattle.om_process.specs.Stored.{anyone, Refuses}
 use Rattle.om_commands.specs.Replay.{IsReplayError}
 use Rattle.om_stable.specs.Content.{Content}
 use Rattle.om_stored_timeline.specs.Stored.{RefusesStored}
-use Rattle.om_stored_debug.specs.Shown.{IsErrorOfShown, IsErrorOfStore, IsShown}
+use Rattle.om_stored_debug.specs.Shown.{IsErrorOfShownStore, IsErrorOfStore, IsShown}
 use Rattle.om_stored_debug.specs.steps.Errors.{IsErrorOfServing}
 
 -- ---- why a store is not shown
@@ -35,13 +35,13 @@ no_memory held (Some x) = tt
 no_memory held None = (0, tt)
 
 -- these errors are among those of packets too
-pub store_shown : (held : Content) (interval : Option ℕ) (error : CommandError) → IsErrorOfStore held interval error → IsErrorOfShown held interval error
+pub store_shown : (held : Content) (interval : Option ℕ) (error : CommandError) → IsErrorOfStore held interval error → IsErrorOfShownStore held interval error
 store_shown held interval errors.CannotRead why = tt
 store_shown held interval errors.CannotWrite why = tt
 store_shown held interval error why = why
 
 -- ---- what is served
-pub serving_shown : (held : Content) (interval : Option ℕ) (error : CommandError) → IsErrorOfServing error → IsErrorOfShown held interval error
+pub serving_shown : (held : Content) (interval : Option ℕ) (error : CommandError) → IsErrorOfServing error → IsErrorOfShownStore held interval error
 serving_shown held interval errors.CannotRead why = tt
 serving_shown held interval errors.CannotWrite why = tt
 serving_shown held interval errors.NoMemory why = no_memory held interval

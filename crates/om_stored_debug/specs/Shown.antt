@@ -23,7 +23,7 @@ IsErrorOfStore held (Some x) error = IsReplayError held x error
 IsErrorOfStore held None error = (x : ℕ) × IsReplayError held x error
 
 -- these, or those of packets
-abbrev pub IsErrorOfShown : Content → Option ℕ → CommandError → Type 0
-IsErrorOfShown held interval errors.CannotRead = Unit {0}
-IsErrorOfShown held interval errors.CannotWrite = Unit {0}
-IsErrorOfShown held interval error = IsErrorOfStore held interval error
+abbrev pub IsErrorOfShownStore : Content → Option ℕ → CommandError → Type 0
+IsErrorOfShownStore held interval errors.CannotRead = Unit {0}
+IsErrorOfShownStore held interval errors.CannotWrite = Unit {0}
+IsErrorOfShownStore held interval error = IsErrorOfStore held interval error

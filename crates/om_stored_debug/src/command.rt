@@ -7,7 +7,7 @@ ghost use Rattle.om_debug.specs.Stops.{DebugState};
 ghost use Rattle.om_debug_command.specs.Debug.{IsBefore, IsServed};
 ghost use Rattle.om_inferiors.specs.declared.shown.Shown.TheVariants.{One};
 ghost use Rattle.om_stable.specs.Calls.{IsCleanCall, UsesStore};
-ghost use Rattle.om_stored_debug.specs.Shown.{IsErrorOfShown, IsErrorOfStore, IsShown};
+ghost use Rattle.om_stored_debug.specs.Shown.{IsErrorOfShownStore, IsErrorOfStore, IsShown};
 ghost use Rattle.om_stored_debug.specs.steps.Errors.{IsErrorOfServing};
 
 use om_commands::CommandError;
@@ -60,7 +60,7 @@ pub fn debug_store<S: Stable, P: Wish, W: Write>(
     ensures served { IsCleanCall S.is_clean S.IsSound store.old store.new → OnOk result ((d : DebugState) × IsShown (S.content store.old) interval d
         × IsServed (One d) (P.remaining packets.old) (P.remaining packets.new) (W.contents writer.old) (W.contents writer.new)) }
     ensures error { IsCleanCall S.is_clean S.IsSound store.old store.new
-        → IfErr result (IsErrorOfShown (S.content store.old) interval) }
+        → IfErr result (IsErrorOfShownStore (S.content store.old) interval) }
     ensures silent { IfErr result (λ error. IsBefore error (Keeps (W.contents writer.old) (W.contents writer.new))) }
     ensures unread { IfErr result (λ error. IsBefore error (Keeps (P.remaining packets.old) (P.remaining packets.new))) }
     ensures same { IsCleanCall S.is_clean S.IsSound store.old store.new → S.content store.new ≡ S.content store.old }

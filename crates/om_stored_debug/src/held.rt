@@ -10,7 +10,7 @@ ghost use Rattle.om_debug.specs.Stops.{DebugState};
 ghost use Rattle.om_debug_command.specs.Debug.{IsBefore, IsServed};
 ghost use Rattle.om_inferiors.specs.declared.shown.Shown.TheVariants.{One};
 ghost use Rattle.om_look_commands.specs.Looks.{IsErrorIn, IsSoIn};
-ghost use Rattle.om_stored_debug.specs.Shown.{IsErrorOfShown, IsErrorOfStore, IsShown};
+ghost use Rattle.om_stored_debug.specs.Shown.{IsErrorOfShownStore, IsErrorOfStore, IsShown};
 ghost use Rattle.om_tables.specs.Store.{HasBothTables, IsFormed, content_in, is_sure};
 
 use crate::command::{answer, open_store};
@@ -35,7 +35,7 @@ pub fn debug_in<P: Wish, W: Write>(
 ) -> Result<(), CommandError>
     ensures served { OnOk result (IsSoIn bytes.now.file.items bytes.now.log.items (λ held. (d : DebugState) × IsShown held interval d
         × IsServed (One d) (P.remaining packets.old) (P.remaining packets.new) (W.contents writer.old) (W.contents writer.new))) }
-    ensures error { IfErr result (IsErrorIn bytes.now.file.items bytes.now.log.items (λ held. IsErrorOfShown held interval)) }
+    ensures error { IfErr result (IsErrorIn bytes.now.file.items bytes.now.log.items (λ held. IsErrorOfShownStore held interval)) }
     ensures silent { IfErr result (λ error. IsBefore error (Keeps (W.contents writer.old) (W.contents writer.new))) }
     ensures unread { IfErr result (λ error. IsBefore error (Keeps (P.remaining packets.old) (P.remaining packets.new))) }
 {

@@ -11,7 +11,7 @@ use Rattle.om_format.proofs.Checkpoints.{one_checkpoint}
 use Rattle.om_format.specs.Receipts.{ReceiptRecord}
 use Rattle.om_machine.specs.State.{State}
 use Rattle.om_process.specs.Core.{CoreState, cluster_size, settled}
-use Rattle.om_process.specs.Replays.{process_of}
+use Rattle.om_process.specs.Replays.{process_of_checkpoint}
 use Rattle.om_process.specs.Stored.{anyone, BeginsWith, IsNoMatterOfContent, IsReplay, Refuses}
 use Rattle.om_process.specs.declared.limits.TheConstants.{LAST_INTERVAL}
 use Rattle.om_process.specs.declared.replay.ReplayFault.{ReplayFault}
@@ -30,7 +30,7 @@ use Rattle.om_stored_timeline.proofs.Rows.{followed_of, received_many}
 
 -- ---- the last interval
 pub last_as : (held : Content) (cp : CheckpointRecord) (x : ℕ) (begun f : Follower) (found : Found) → BeginsWith anyone held LAST_INTERVAL cp → rows_of found ≡ between held.receipts cp.head.interval LAST_INTERVAL
-    → IsLed begun found f → begun.alone.own ≡ cp.head.pid → begun.alone.n ≡ cp.n → begun.interval ≡ cp.head.interval → begun.alone.machine ≡ (process_of cp).machine → x ≡ f.interval → IsLastStored held x
+    → IsLed begun found f → begun.alone.own ≡ cp.head.pid → begun.alone.n ≡ cp.n → begun.interval ≡ cp.head.interval → begun.alone.machine ≡ (process_of_checkpoint cp).machine → x ≡ f.interval → IsLastStored held x
 last_as held cp x begun f found begins is led is_own is_n at machine last =
     let along = led.along in
     let rs : List ReceiptRecord = along.receipts in
@@ -53,7 +53,7 @@ last_as held cp x begun f found begins is led is_own is_n at machine last =
     }
 
 -- ---- where it stands
-begin_replay : (held : Content) (x : ℕ) (cp : CheckpointRecord) → BeginsWith anyone held x cp → cp.n ≡ length cp.head.vec → IsReplay held cp.head.interval (settled cp.head.pid (process_of cp) 0 0 [])
+begin_replay : (held : Content) (x : ℕ) (cp : CheckpointRecord) → BeginsWith anyone held x cp → cp.n ≡ length cp.head.vec → IsReplay held cp.head.interval (settled cp.head.pid (process_of_checkpoint cp) 0 0 [])
 begin_replay held x cp begins size =
     let here : cp.head.interval ≤ cp.head.interval = omega arith in
     let e : cp.head.interval ≡ cp.head.interval + 0 = omega arith in
@@ -74,15 +74,15 @@ begin_replay held x cp begins size =
     }
 
 pub at_begin : (held : Content) (x own n begin event : ℕ) (cp : CheckpointRecord) (there : CoreState) (m : State) (told t : TimelineState) → BeginsWith anyone held x cp → IsReplay held x there → cp.n ≡ length cp.head.vec
-    → own ≡ cp.head.pid → n ≡ cp.n → begin ≡ cp.head.interval → m ≡ (process_of cp).machine → event ≡ event_of begin x → IsToldFrom held.receipts own n begin m told
+    → own ≡ cp.head.pid → n ≡ cp.n → begin ≡ cp.head.interval → m ≡ (process_of_checkpoint cp).machine → event ≡ event_of begin x → IsToldFrom held.receipts own n begin m told
     → t ≡ at told event 0 → machine_here t ≡ there.now.machine → IsTimelineAt held x own t
 at_begin held x own n begin event cp there m told t begins replay size is_own is_n at_interval machine is_event is_told stands here = record {
   begin = begin;
-  first = settled cp.head.pid (process_of cp) 0 0 [];
-  is_first = subst (λ b. IsReplay held b (settled cp.head.pid (process_of cp) 0 0 [])) (sym at_interval) (begin_replay held x cp begins size);
+  first = settled cp.head.pid (process_of_checkpoint cp) 0 0 [];
+  is_first = subst (λ b. IsReplay held b (settled cp.head.pid (process_of_checkpoint cp) 0 0 [])) (sym at_interval) (begin_replay held x cp begins size);
   is_own = sym is_own;
   told = told;
-  is_told = subst (λ k. IsToldFrom held.receipts own k begin (process_of cp).machine told) (is_n ∙ size) (subst (λ s. IsToldFrom held.receipts own n begin s told) machine is_told);
+  is_told = subst (λ k. IsToldFrom held.receipts own k begin (process_of_checkpoint cp).machine told) (is_n ∙ size) (subst (λ s. IsToldFrom held.receipts own n begin s told) machine is_told);
   stands = stands ∙ ap (λ e. at told e 0) is_event;
   there = there;
   is_there = replay;
@@ -104,7 +104,7 @@ same_checkpoint held x a b one other =
     (one_checkpoint other.stored.0 spelled.0 other.stored.2.0 a b spelled.1 other.stored.2.1).1
 
 pub at_replay : (held : Content) (x own n begin event : ℕ) (cp : CheckpointRecord) (there : CoreState) (m : State) (astray told t : TimelineState) → BeginsWith anyone held x cp → IsReplay held x there → cp.n ≡ length cp.head.vec
-    → own ≡ cp.head.pid → n ≡ cp.n → begin ≡ cp.head.interval → m ≡ (process_of cp).machine → event ≡ event_of begin x → IsToldFrom held.receipts own n begin m astray
+    → own ≡ cp.head.pid → n ≡ cp.n → begin ≡ cp.head.interval → m ≡ (process_of_checkpoint cp).machine → event ≡ event_of begin x → IsToldFrom held.receipts own n begin m astray
     → (event ≤ length astray.deeds → machine_here (at astray event 0) ≡ there.now.machine → ⊥)
     → IsToldFrom held.receipts own n x there.now.machine t → IsTimelineAt held x own t
 at_replay held x own n begin event cp there m astray told t begins replay size is_own is_n at_interval machine is_event is_astray elsewhere is_told =
@@ -130,7 +130,7 @@ at_replay held x own n begin event cp there m astray told t begins replay size i
           checkpoint = cp;
           begins = begins;
           told = astray;
-          is_told = subst (λ b. IsToldFrom held.receipts cp.head.pid cp.n b (process_of cp).machine astray) at_interval
+          is_told = subst (λ b. IsToldFrom held.receipts cp.head.pid cp.n b (process_of_checkpoint cp).machine astray) at_interval
               (subst (λ s. IsToldFrom held.receipts cp.head.pid cp.n begin s astray) machine
               (subst (λ k. IsToldFrom held.receipts cp.head.pid k begin m astray) is_n
               (subst (λ o. IsToldFrom held.receipts o n begin m astray) is_own is_astray)));

@@ -3,7 +3,7 @@ use Rattle.std.specs.Prelude.{◌≡◌, ℕ, ◌+◌, ◌-◌, ◌*◌, ◌≤�
 use Rattle.om_format.specs.Checkpoints.{CheckpointRecord}
 use Rattle.om_format.specs.Receipts.{ReceiptRecord}
 use Rattle.om_process.specs.Core.{CoreState, cluster_size}
-use Rattle.om_process.specs.Replays.{process_of}
+use Rattle.om_process.specs.Replays.{process_of_checkpoint}
 use Rattle.om_process.specs.Stored.{anyone, BeginsWith, IsReplay, Refuses}
 use Rattle.om_process.specs.declared.replay.ReplayFault.{ReplayFault}
 use Rattle.om_process.specs.declared.limits.TheConstants.{LAST_INTERVAL}
@@ -21,7 +21,7 @@ pub record IsAstray (held : Content) (x : ℕ) (there : CoreState) : Type 0 wher
   pub checkpoint : CheckpointRecord
   pub begins : BeginsWith anyone held x checkpoint
   pub told : TimelineState
-  pub is_told : IsToldFrom held.receipts checkpoint.head.pid checkpoint.n checkpoint.head.interval (process_of checkpoint).machine told
+  pub is_told : IsToldFrom held.receipts checkpoint.head.pid checkpoint.n checkpoint.head.interval (process_of_checkpoint checkpoint).machine told
   pub not_there : event_of checkpoint.head.interval x ≤ length told.deeds
       → machine_here (at told (event_of checkpoint.head.interval x) 0) ≡ there.now.machine → ⊥
 
@@ -50,7 +50,7 @@ pub record IsLastStored (held : Content) (x : ℕ) : Type 0 where
   pub checkpoint : CheckpointRecord
   pub begins : BeginsWith anyone held LAST_INTERVAL checkpoint
   pub receipts : List ReceiptRecord
-  pub followed : IsFollowed held.receipts checkpoint.head.pid checkpoint.n checkpoint.head.interval (process_of checkpoint).machine receipts
+  pub followed : IsFollowed held.receipts checkpoint.head.pid checkpoint.n checkpoint.head.interval (process_of_checkpoint checkpoint).machine receipts
   pub is : x ≡ checkpoint.head.interval + length receipts
 
 -- it stands behind the receipt of the interval that is asked for, or else of the last

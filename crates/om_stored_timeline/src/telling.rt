@@ -2,7 +2,7 @@
 
 ghost use Rattle.std.specs.Prelude.{◌≡◌, ◌∷◌, ◌++◌, [], IfErr, IfOk, IsErrOf};
 ghost use Rattle.om_format.specs.CheckpointViews.{checkpoint_record};
-ghost use Rattle.om_process.specs.Replays.{process_of};
+ghost use Rattle.om_process.specs.Replays.{process_of_checkpoint};
 ghost use Rattle.om_process.specs.Stored.{IsNoMatterOfContent};
 ghost use Rattle.om_process.specs.declared.limits.TheConstants.{LAST_INTERVAL};
 ghost use Rattle.om_process.specs.declared.replay.ReplayFault.{ReplayFault};
@@ -25,7 +25,7 @@ use std::alloc::{AllocError, Global};
 
 // Makes the machine of a checkpoint.
 pub(crate) fn machine_of(alloc: Global, checkpoint: &Checkpoint) -> Result<Machine, AllocError>
-    ensures { IfOk result (λ machine. machine ≡ (process_of (checkpoint_record checkpoint.now)).machine) }
+    ensures { IfOk result (λ machine. machine ≡ (process_of_checkpoint (checkpoint_record checkpoint.now)).machine) }
 {
     let head = &checkpoint.head;
     let memory = checkpoint.memory.as_slice();

@@ -3,7 +3,7 @@ use Rattle.std.specs.Prelude.{ℕ, List, ◌∷◌, ◌++◌, codes, decimal}
 use Rattle.std.specs.List.{flat_map}
 use Rattle.om_scripts.specs.Programs.{Cluster}
 use Rattle.om_svg.specs.ShapeText.{band_text, crossing_text, segment_text, shape_text, message_line_text}
-use Rattle.om_svg.specs.WordText.{word_text}
+use Rattle.om_svg.specs.WordText.{sheet_word_text}
 use Rattle.om_sheet.specs.declared.sheet.Counts.{Counts}
 use Rattle.om_sheet.specs.declared.sheet.Drawn.{Drawn}
 use Rattle.om_sheet.specs.declared.sheet.Sheet.{Sheet}
@@ -58,4 +58,4 @@ legend_text drawn = codes "<g transform=\"translate(16 " ++ decimal drawn.legend
 unfoldable pub picture_text : Cluster → Drawn → List ℕ
 picture_text cluster drawn =
     open_text drawn ++ layers_text drawn.bottom drawn.sheet ++ flat_map shape_text drawn.marks.items ++ head_text drawn
-    ++ flat_map (word_text cluster) drawn.sheet.text.items ++ legend_text drawn
+    ++ flat_map (sheet_word_text cluster) drawn.sheet.text.items ++ legend_text drawn

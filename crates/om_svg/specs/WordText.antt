@@ -58,7 +58,7 @@ style_text styles.Grey = codes " class=\"y\""
 style_text styles.Middle = codes " class=\"p\""
 
 -- a word, at its place
-abbrev pub word_text : Cluster → Word → List ℕ
-word_text cluster word =
+abbrev pub sheet_word_text : Cluster → Word → List ℕ
+sheet_word_text cluster word =
     codes "<text" ++ style_text word.style ++ codes " x=\"" ++ decimal word.x ++ codes "\" y=\"" ++ decimal word.y ++ codes "\">"
     ++ content_text cluster word.what ++ codes "</text>\n"

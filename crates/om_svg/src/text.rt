@@ -5,7 +5,7 @@ ghost use Rattle.std.specs.List.{flat_map};
 ghost use Rattle.om_svg.specs.PictureText.{head_text, key_text, layers_text, legend_text, open_text, picture_text, styles_text, summary_text};
 ghost use Rattle.om_svg.specs.steps.Sheets.{failed_text, failure_count, ground_height, ground_text, ground_width, moved_text, outputs_text, refused_count, resent_count, sent_count, sent_text, shown_count, shown_text, size_text, svg_height, svg_width, taken_count, taken_text, view_text};
 ghost use Rattle.om_svg.specs.ShapeText.{band_text, crossing_text, segment_text, shape_text, message_line_text};
-ghost use Rattle.om_svg.specs.WordText.{word_text};
+ghost use Rattle.om_svg.specs.WordText.{sheet_word_text};
 
 use crate::shape_text::{push_band, push_crossing, push_message_line, push_segment, push_shape};
 use crate::word_text::push_word;
@@ -369,7 +369,7 @@ fn push_words(
     programs: &Programs,
     words: &[Word],
 ) -> Result<(), AllocError>
-    ensures { OnOk result (string_bytes text.new ≡ string_bytes text.old ++ flat_map (word_text programs.now) words.now) }
+    ensures { OnOk result (string_bytes text.new ≡ string_bytes text.old ++ flat_map (sheet_word_text programs.now) words.now) }
 {
     for word in words {
         push_word(alloc, text, programs, word)?;

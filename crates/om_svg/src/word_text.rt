@@ -2,7 +2,7 @@
 
 ghost use Rattle.std.specs.Prelude.{◌≡◌, ◌++◌, OnOk, string_bytes};
 ghost use Rattle.std.specs.Option.{option_map};
-ghost use Rattle.om_svg.specs.WordText.{bytes_text, label_text, name_text, end_state_text, style_text, content_text, word_text};
+ghost use Rattle.om_svg.specs.WordText.{bytes_text, label_text, name_text, end_state_text, style_text, content_text, sheet_word_text};
 
 use crate::answer_text::{push_recovery, why_word};
 use om_event_text::push_status;
@@ -29,7 +29,7 @@ pub fn push_word(
     programs: &Programs,
     word: &Word,
 ) -> Result<(), AllocError>
-    ensures { OnOk result (string_bytes text.new ≡ string_bytes text.old ++ word_text programs.now word.now) }
+    ensures { OnOk result (string_bytes text.new ≡ string_bytes text.old ++ sheet_word_text programs.now word.now) }
 {
     let style = style_text(word.style);
     let x = word.x;

@@ -1,3 +1,4 @@
 -- What only the crate's own parts rest on: no public clause cites these.
 pub mod Refusals
+pub mod Dropping
 pub mod Turning

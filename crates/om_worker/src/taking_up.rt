@@ -117,9 +117,9 @@ fn wait_for<'a, K: Naming, R: Wait + Clock, G, O: Opener<R>>(
     wanted: u64,
     turns: u64,
 ) -> Result<u64, RunFault>
-    ensures same { worker.new.links ≡ worker.old.links }
+    ensures same { worker.new.links.ends ≡ worker.old.links.ends }
     ensures left { IfOk result (λ left. left ≤ turns) }
-    ensures fault { IfErr result (IsFaultBy worker.old.links.own) }
+    ensures fault { IfErr result (IsFaultBy worker.old.links.ends.own) }
 {
     let mut left = turns;
     while left > 0 {
@@ -141,8 +141,8 @@ fn opened<'a, K: Naming, R: Wait + Clock, G, O: Opener<R>>(
     cluster: &Cluster<'a, K, R, G, O>,
     worker: &mut Worker<'a, K>,
 ) -> Result<O::Store, RunFault>
-    ensures same { worker.new.links ≡ worker.old.links }
-    ensures fault { IfErr result (IsFaultBy worker.old.links.own) }
+    ensures same { worker.new.links.ends ≡ worker.old.links.ends }
+    ensures fault { IfErr result (IsFaultBy worker.old.links.ends.own) }
 {
     let pid = worker.pid();
     match cluster.opener.make(cluster.rt, cluster.alloc, pid) {
@@ -163,8 +163,8 @@ fn looked_at<'a, K: Naming, R: Wait + Clock, G, O: Opener<R>>(
     store: &mut O::Store,
 ) -> Result<Found, RunFault>
     requires { K.cell.n ≤ MAX_PROCESSES }
-    ensures same { worker.new.links ≡ worker.old.links }
-    ensures fault { IfErr result (IsFaultBy worker.old.links.own) }
+    ensures same { worker.new.links.ends ≡ worker.old.links.ends }
+    ensures fault { IfErr result (IsFaultBy worker.old.links.ends.own) }
 {
     let (pid, n) = (worker.pid(), worker.n());
     match find(cluster.alloc, store, pid, n, image) {
@@ -245,10 +245,10 @@ pub(crate) fn take_up<'a, K: Naming, J: Series, R: Wait + Clock, G, O: Opener<R>
     requires few { K.cell.n ≤ MAX_PROCESSES }
     requires unsure { AreNeverClean O.Store.is_clean }
     requires clean { K.OverClean → AreAlwaysClean O.Store.is_clean }
-    ensures same { worker.new.links ≡ worker.old.links }
-    ensures member { IfOk result (λ made. made.0 ≡ record { program = program_of image.entry.now; own = worker.old.links.own; n = K.cell.n }) }
+    ensures same { worker.new.links.ends ≡ worker.old.links.ends }
+    ensures member { IfOk result (λ made. made.0 ≡ record { program = program_of image.entry.now; own = worker.old.links.ends.own; n = K.cell.n }) }
     ensures left { IfOk result (λ made. made.1 ≤ cluster.now.config.now.turns) }
-    ensures fault { IfErr result (IsFaultBy worker.old.links.own) }
+    ensures fault { IfErr result (IsFaultBy worker.old.links.ends.own) }
 {
     let (pid, n, alloc) = (worker.pid(), worker.n(), cluster.alloc);
     let census = cluster.census;

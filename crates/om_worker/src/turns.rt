@@ -38,15 +38,17 @@ fn leave<'a, K: Naming, J: Series, S: Stable, R: Wait>(
     rt: &R,
     alloc: Global,
     worker: &mut Worker<'a, K>,
-    node: Node<'a, J, S>,
+    mut node: Node<'a, J, S>,
     pass: Pass<K>,
 ) -> Result<AfterTurn<'a, K, J, S>, RunFault>
-    requires own { node.member.own ≡ worker.old.links.own }
+    requires own { node.member.own ≡ worker.old.links.ends.own }
+    requires size { node.member.n ≡ K.cell.n }
     requires landed { node.away ≡ false }
-    ensures same { worker.new.links ≡ worker.old.links }
+    ensures same { worker.new.links.ends ≡ worker.old.links.ends }
     ensures turned { IfOk result (λ t. IsTurned S.is_clean node.entry.member t) }
-    ensures fault { IfErr result (IsFaultBy worker.old.links.own) }
+    ensures fault { IfErr result (IsFaultBy worker.old.links.ends.own) }
 {
+    worker.drop_released(rt, &mut node);
     let harvest = match worker.harvest(rt, alloc, node.core().made()) {
         Ok(Some(harvest)) => harvest,
         Ok(None) => return Ok(AfterTurn::On(WorkerState::Up(node), pass)),
@@ -71,11 +73,11 @@ fn take_turn<'a, K: Naming, J: Series, S: Ledger, R: Wait + Clock>(
     state: WorkerState<'a, J, S>,
     pass: Pass<K>,
 ) -> Result<AfterTurn<'a, K, J, S>, RunFault>
-    requires process { IsProcessOf S.is_clean K.OverClean K.programs K.cell.n worker.old.links.own (member_of state) }
+    requires process { IsProcessOf S.is_clean K.OverClean K.programs K.cell.n worker.old.links.ends.own (member_of state) }
     requires landed { IsLanded state }
-    ensures same { worker.new.links ≡ worker.old.links }
+    ensures same { worker.new.links.ends ≡ worker.old.links.ends }
     ensures turned { IfOk result (λ t. IsTurned S.is_clean (member_of state.entry) t) }
-    ensures fault { IfErr result (IsFaultBy worker.old.links.own) }
+    ensures fault { IfErr result (IsFaultBy worker.old.links.ends.own) }
 {
     let (state, pass) = match worker.shown_turn(rt, alloc, state, pass) {
         Ok(turned) => turned,
@@ -98,15 +100,15 @@ fn turns_until_over<'a, K: Naming, J: Series, S: Ledger, R: Wait + Clock>(
     state: WorkerState<'a, J, S>,
     pass: Pass<K>,
 ) -> Result<(Status, Harvest<K>, S), RunFault>
-    requires process { IsProcessOf S.is_clean K.OverClean K.programs K.cell.n worker.old.links.own (member_of state) }
+    requires process { IsProcessOf S.is_clean K.OverClean K.programs K.cell.n worker.old.links.ends.own (member_of state) }
     requires landed { IsLanded state }
-    ensures same { worker.new.links ≡ worker.old.links }
+    ensures same { worker.new.links.ends ≡ worker.old.links.ends }
     ensures ended { IfOk result (λ end. IsEnd end.0) }
     ensures own { let m = member_of state.entry in IfOk result (λ end. end.1.own ≡ m.own) }
     ensures whole { let m = member_of state.entry in IfOk result (λ end. IsTrue (S.is_clean end.2)
         → IsWholeRun m.program m.own m.n end.0 (length end.1.outputs.items)) }
     ensures given { OnOk result (1 ≤ turns) }
-    ensures fault { IfErr result (IsFaultBy worker.old.links.own) }
+    ensures fault { IfErr result (IsFaultBy worker.old.links.ends.own) }
 {
     let mut pass = pass;
     let mut state = state;
@@ -140,12 +142,12 @@ pub(crate) fn take_turns<'a, K: Naming, J: Series, S: Ledger, R: Wait + Clock>(
     state: WorkerState<'a, J, S>,
     pass: Pass<K>,
 ) -> Result<Finished<K, S>, RunFault>
-    requires process { IsProcessOf S.is_clean K.OverClean K.programs K.cell.n worker.links.own (member_of state) }
+    requires process { IsProcessOf S.is_clean K.OverClean K.programs K.cell.n worker.links.ends.own (member_of state) }
     requires landed { IsLanded state }
     ensures end { let m = member_of state.entry in
-        IfOk result (λ f. IsEndOf S.is_clean m.program worker.entry.links.lines m.own m.n f) }
+        IfOk result (λ f. IsEndOf S.is_clean m.program worker.entry.links.ends.lines m.own m.n f) }
     ensures given { OnOk result (1 ≤ turns) }
-    ensures fault { IfErr result (IsFaultBy worker.entry.links.own) }
+    ensures fault { IfErr result (IsFaultBy worker.entry.links.ends.own) }
 {
     let mut worker = worker;
     let (status, harvest, store) = turns_until_over(

@@ -18,7 +18,7 @@ use om_board::{Naming, Pass, Shared};
 use om_interval::Pid;
 use om_node::{Due, Kept, Node, WorkerFault};
 use om_observers::{Diary, Observers, Past, Sight, Watch};
-use om_process::{Accept, PendingRow, Status, Witness};
+use om_process::{Accept, PendingRow, ProcCore, Status, Witness};
 use om_report::Harvest;
 use om_restart::Found;
 use om_stable::{Ledger, Stable};
@@ -63,10 +63,14 @@ pub(crate) struct Worker<'a, K: Naming> {
     patience: SpinPolicy,
     // Whether all that the process keeps was resent, after some idle turns, since it ran, received or refused a message.
     resent: bool,
+    // Whether the process had ended when it ran last.
+    has_ended: bool,
+    // Whether all are told that it takes no message any more.
+    is_over: bool,
     // How many turns the last one counts as beside itself.
     extra: u64,
-    ghost linked: { links.own ≡ manager_link.pid },
-    ghost many: { links.n ≡ K.cell.n },
+    ghost linked: { links.ends.own ≡ manager_link.pid },
+    ghost many: { links.ends.n ≡ K.cell.n },
 }
 
 // How far a process whose store is slow has handed over what it received, and its checkpoints.
@@ -115,7 +119,7 @@ impl<'a, K: Naming> Worker<'a, K> {
         alloc: Global,
         observers: Observers<'a>,
     ) -> Worker<'a, K>
-        requires { links.n ≡ K.cell.n }
+        requires { links.ends.n ≡ K.cell.n }
         ensures { result.links ≡ links.entry }
     {
         let own = links.own();
@@ -135,13 +139,15 @@ impl<'a, K: Naming> Worker<'a, K> {
             idle: Idle::new(),
             patience: SpinPolicy::new(),
             resent: false,
+            has_ended: false,
+            is_over: false,
             extra: 0,
         }
     }
 
     // Returns the process.
     pub(crate) fn pid(&self) -> Pid
-        ensures { result ≡ self.now.links.own }
+        ensures { result ≡ self.now.links.ends.own }
     {
         self.manager_link.pid
     }
@@ -166,7 +172,7 @@ impl<'a, K: Naming> Worker<'a, K> {
         found: Found,
     ) -> Result<(), WorkerFault>
         requires { K.OverClean → ⊥ }
-        ensures same { self.new.links ≡ self.old.links }
+        ensures same { self.new.links.ends ≡ self.old.links.ends }
         ensures past { OnOk result (self.new.past ≡ record { keeps = true; senders = found.senders.items; count = 0 }) }
         ensures kept { OnOk result (self.new.kept ≡ Some (record { outputs = length found.outputs.items; senders = found.kept })) }
     {
@@ -191,7 +197,7 @@ impl<'a, K: Naming> Worker<'a, K> {
     // Counts the process, which came up in this round, and wakes the others where it was the last. It is the last act of coming up,
     // but where a store is taken up: there the manager is told of it afterwards.
     pub(crate) fn arrive(&mut self, round: u32)
-        ensures { self.new.links ≡ self.old.links }
+        ensures { self.new.links.ends ≡ self.old.links.ends }
     {
         if self.barrier.arrive(round) {
             self.links.wake_all();
@@ -201,7 +207,7 @@ impl<'a, K: Naming> Worker<'a, K> {
     // Returns whether the process, which is up, waits for others to come up. A turn in which it does is one in which nothing
     // happens.
     fn waits_for_others<R: Wait + Clock>(&mut self, rt: &R) -> bool
-        ensures { self.new.links ≡ self.old.links }
+        ensures { self.new.links.ends ≡ self.old.links.ends }
     {
         if self.barrier.is_passed() {
             return false;
@@ -216,7 +222,7 @@ impl<'a, K: Naming> Worker<'a, K> {
 
     // Gives the passes of the process up, when it has ended, and what it did.
     pub(crate) fn into_ends(self) -> (Ends, Witness)
-        ensures { let l = self.entry.links in HasEnds K.cell.n l.lines l.own result.0 }
+        ensures { let l = self.entry.links.ends in HasEnds K.cell.n l.lines l.own result.0 }
     {
         let Worker { links, past, .. } = self;
         (links.into_ends(), past.into_witness())
@@ -229,7 +235,7 @@ impl<'a, K: Naming> Worker<'a, K> {
         alloc: Global,
         made: u64,
     ) -> Result<Option<Harvest<K>>, WorkerFault>
-        ensures own { IfOk result (λ r. IfSome r (λ h. h.own ≡ self.now.links.own)) }
+        ensures own { IfOk result (λ r. IfSome r (λ h. h.own ≡ self.now.links.ends.own)) }
         ensures many { IfOk result (λ r. IfSome r (λ h. length h.outputs.items ≡ made)) }
         ensures none { IfOk result (λ r. IfNone r (UnderLock K.cell.n (λ before after.
             HasReleasedAnother before.manager self.now.manager_link.pid made × (after ≡ before)))) }
@@ -239,7 +245,7 @@ impl<'a, K: Naming> Worker<'a, K> {
 
     // Notes that the process has ended, with so many instructions.
     pub(crate) fn end(&mut self, count: u64)
-        ensures { self.new.links ≡ self.old.links }
+        ensures { self.new.links.ends ≡ self.old.links.ends }
     {
         self.past.end(count);
     }
@@ -254,9 +260,9 @@ impl<'a, K: Naming> Worker<'a, K> {
         state: WorkerState<'a, J, S>,
         pass: Pass<K>,
     ) -> Result<(WorkerState<'a, J, S>, Pass<K>), WorkerFault>
-        requires process { IsProcessOf S.is_clean K.OverClean K.programs K.cell.n self.old.links.own (member_of state) }
+        requires process { IsProcessOf S.is_clean K.OverClean K.programs K.cell.n self.old.links.ends.own (member_of state) }
         requires landed { IsLanded state }
-        ensures same { self.new.links ≡ self.old.links }
+        ensures same { self.new.links.ends ≡ self.old.links.ends }
         ensures place { IfOk result (λ r. member_of r.0 ≡ member_of state.entry) }
         ensures landed { IfOk result (λ r. IsLanded r.0) }
         ensures turned { IfOk result (λ r. IsTurnOf K.cell.n self.old.manager_link.round state.entry r.0) }
@@ -281,9 +287,9 @@ impl<'a, K: Naming> Worker<'a, K> {
         state: WorkerState<'a, J, S>,
         pass: Pass<K>,
     ) -> Result<(WorkerState<'a, J, S>, Pass<K>), WorkerFault>
-        requires process { IsProcessOf S.is_clean K.OverClean K.programs K.cell.n self.old.links.own (member_of state) }
+        requires process { IsProcessOf S.is_clean K.OverClean K.programs K.cell.n self.old.links.ends.own (member_of state) }
         requires landed { IsLanded state }
-        ensures same { self.new.links ≡ self.old.links }
+        ensures same { self.new.links.ends ≡ self.old.links.ends }
         ensures place { IfOk result (λ r. member_of r.0 ≡ member_of state.entry) }
         ensures landed { IfOk result (λ r. IsLanded r.0) }
     {
@@ -329,8 +335,8 @@ impl<'a, K: Naming> Worker<'a, K> {
         node: Node<'a, J, S>,
         pass: Pass<K>,
     ) -> Result<(WorkerState<'a, J, S>, Pass<K>), WorkerFault>
-        requires { IsProcessOf S.is_clean K.OverClean K.programs K.cell.n self.old.links.own node.member }
-        ensures same { self.new.links ≡ self.old.links }
+        requires { IsProcessOf S.is_clean K.OverClean K.programs K.cell.n self.old.links.ends.own node.member }
+        ensures same { self.new.links.ends ≡ self.old.links.ends }
         ensures place { IfOk result (λ r. member_of r.0 ≡ node.entry.member) }
         ensures landed { IfOk result (λ r. IsLanded r.0) }
     {
@@ -339,7 +345,11 @@ impl<'a, K: Naming> Worker<'a, K> {
         }
         let mut node = node;
         match self.step(rt, alloc, &mut node) {
-            Ok(turn_outcome) => Ok((turn_outcome.place_of(node), pass)),
+            Ok(turn_outcome) => {
+                let mut pass = pass;
+                self.tell_end(rt, node.core(), &mut pass);
+                Ok((turn_outcome.place_of(node), pass))
+            }
             Err(worker_fault) => {
                 drop(node);
                 Err(worker_fault)
@@ -355,8 +365,8 @@ impl<'a, K: Naming> Worker<'a, K> {
         alloc: Global,
         node: &mut Node<'a, J, S>,
     ) -> Result<TurnOutcome, WorkerFault>
-        requires { IsProcessOf S.is_clean K.OverClean K.programs K.cell.n self.old.links.own node.old.member }
-        ensures same { self.new.links ≡ self.old.links }
+        requires { IsProcessOf S.is_clean K.OverClean K.programs K.cell.n self.old.links.ends.own node.old.member }
+        ensures same { self.new.links.ends ≡ self.old.links.ends }
         ensures member { node.new.member ≡ node.old.member }
         ensures landed { IfOk result (λ turn_outcome. IsLandedAt turn_outcome node.new) }
     {
@@ -378,8 +388,8 @@ impl<'a, K: Naming> Worker<'a, K> {
         alloc: Global,
         node: &mut Node<'a, J, S>,
     ) -> Result<TurnOutcome, WorkerFault>
-        requires { IsProcessOf S.is_clean K.OverClean K.programs K.cell.n self.old.links.own node.old.member }
-        ensures same { self.new.links ≡ self.old.links }
+        requires { IsProcessOf S.is_clean K.OverClean K.programs K.cell.n self.old.links.ends.own node.old.member }
+        ensures same { self.new.links.ends ≡ self.old.links.ends }
         ensures member { node.new.member ≡ node.old.member }
     {
         let status = self.run(rt, alloc, node)?;
@@ -407,9 +417,9 @@ impl<'a, K: Naming> Worker<'a, K> {
         alloc: Global,
         node: &mut Node<'a, J, S>,
     ) -> Result<Status, WorkerFault>
-        requires own { node.old.member.own ≡ self.old.links.own }
+        requires own { node.old.member.own ≡ self.old.links.ends.own }
         requires size { node.old.member.n ≡ K.cell.n }
-        ensures same { self.new.links ≡ self.old.links }
+        ensures same { self.new.links.ends ≡ self.old.links.ends }
         ensures member { node.new.member ≡ node.old.member }
         ensures ran { IfOk result (λ status. HasRun node.old.core self.old.config.now.fuel status node.new.core.now) }
         ensures stored { IfOk result (λ status. IsEnd status → node.new.core.log ≡ []) }
@@ -421,6 +431,7 @@ impl<'a, K: Naming> Worker<'a, K> {
         }
         let ran = node.run(alloc, self.config.fuel)?;
         self.diary.ran(rt, node.core(), ran)?;
+        self.has_ended = ran.status.has_ended();
         if ran.steps > 0 {
             self.change();
         }
@@ -445,8 +456,8 @@ impl<'a, K: Naming> Worker<'a, K> {
         status: Status,
         called: bool,
     ) -> Result<ManagerPhase, WorkerFault>
-        requires { IsProcessOf S.is_clean K.OverClean K.programs K.cell.n self.old.links.own node.old.member }
-        ensures same { self.new.links ≡ self.old.links }
+        requires { IsProcessOf S.is_clean K.OverClean K.programs K.cell.n self.old.links.ends.own node.old.member }
+        ensures same { self.new.links.ends ≡ self.old.links.ends }
         ensures member { node.new.member ≡ node.old.member }
         ensures reported { IfOk result (λ phase. HasNothingToSay self.old.manager_link.handed status node.old.core phase node.new.core
             ⊎ HasReported K.cell.n self.old.manager_link.pid self.old.manager_link.round status node.old.core phase) }
@@ -462,8 +473,29 @@ impl<'a, K: Naming> Worker<'a, K> {
         let (phase, limits) = self
             .manager_link
             .meet(rt, alloc, node, ended, is_patient, &mut self.diary)?;
+        let is_trimmed = limits.is_some();
         self.apply_limits(alloc, node, limits, ended)?;
+        self.drop_untaken(node, is_trimmed);
         Ok(phase)
+    }
+
+    // Tells all senders once the process takes no message any more, whatever fails: it has ended, and its interval is in the recovery
+    // state of its round, so that no round takes its end back.
+    fn tell_end<R: Wait>(&mut self, rt: &R, core: &ProcCore, pass: &mut Pass<K>)
+        ensures { self.new.links.ends ≡ self.old.links.ends }
+    {
+        if !self.has_ended || self.is_over {
+            return;
+        }
+        let front = self.manager_link.read(rt, pass);
+        let is_reached = match front.vec.as_slice().get(self.manager_link.pid.index()) {
+            Some(interval) => *interval >= core.interval(),
+            None => false,
+        };
+        if is_reached && front.round == core.round() {
+            self.links.tell_end();
+            self.is_over = true;
+        }
     }
 
     // Takes a message, where the process waits for one. What comes to one that has ended is dropped: a round that rolls it back
@@ -475,7 +507,7 @@ impl<'a, K: Naming> Worker<'a, K> {
         node: &mut Node<'a, J, S>,
         status: Status,
     ) -> Result<TurnOutcome, WorkerFault>
-        ensures same { self.new.links ≡ self.old.links }
+        ensures same { self.new.links.ends ≡ self.old.links.ends }
         ensures member { node.new.member ≡ node.old.member }
         ensures offered { OnOk result ((node.new.core ≡ node.old.core)
             ⊎ ((message : Message) × IsOffered node.old.core message node.new.core.now)) }
@@ -496,7 +528,7 @@ impl<'a, K: Naming> Worker<'a, K> {
 
     // Takes a message, or rests; what ends the rest is taken at once.
     fn take<R: Wait + Clock>(&mut self, rt: &R) -> Option<Taken>
-        ensures same { self.new.links ≡ self.old.links }
+        ensures same { self.new.links.ends ≡ self.old.links.ends }
     {
         let taken = self.links.take(rt);
         if taken.is_some() {
@@ -510,7 +542,7 @@ impl<'a, K: Naming> Worker<'a, K> {
 
     // Notes that something happens to the process: it is idle no longer, and what it keeps is not all resent.
     fn change(&mut self)
-        ensures same { self.new.links ≡ self.old.links }
+        ensures same { self.new.links.ends ≡ self.old.links.ends }
     {
         self.idle.end();
         self.resent = false;
@@ -524,7 +556,7 @@ impl<'a, K: Naming> Worker<'a, K> {
         node: &mut Node<'a, J, S>,
         taken: &Taken,
     ) -> Result<TurnOutcome, WorkerFault>
-        ensures same { self.new.links ≡ self.old.links }
+        ensures same { self.new.links.ends ≡ self.old.links.ends }
         ensures member { node.new.member ≡ node.old.member }
         ensures offered { OnOk result (IsOffered node.old.core taken.now node.new.core.now) }
     {

@@ -36,7 +36,7 @@ pub struct Job<'a, K: Naming, J: Series, S: Stable> {
     pub pass: Pass<K>,
     /// Where stores are slow, the way to the thread that writes that of the process.
     pub channel: Option<FlightChannel<J, S>>,
-    ghost sized: { links.n ≡ K.cell.n },
+    ghost sized: { links.ends.n ≡ K.cell.n },
 }
 
 // Asks the gate until it lets the process start.
@@ -108,11 +108,11 @@ fn work_anew<'a, K: Naming, J: Series, R: Wait + Clock, G: Gate, O: Opener<R>>(
     image: &'a Image,
     job: Job<'a, K, J, O::Store>,
 ) -> Result<Finished<K, O::Store>, RunFault>
-    requires program { slice_get K.programs job.links.own ≡ Some (program_of image.now) }
+    requires program { slice_get K.programs job.links.ends.own ≡ Some (program_of image.now) }
     requires clean { K.OverClean → AreAlwaysClean O.Store.is_clean }
-    ensures end { let l = job.entry.links in
+    ensures end { let l = job.entry.links.ends in
         IfOk result (λ f. IsEndOf O.Store.is_clean (program_of image.entry.now) l.lines l.own l.n f) }
-    ensures own { IsOwnEnd cluster.now.config.now job.entry.links.own result }
+    ensures own { IsOwnEnd cluster.now.config.now job.entry.links.ends.own result }
 {
     let Job {
         links,
@@ -152,11 +152,11 @@ fn work_on<'a, K: Naming, J: Series, R: Wait + Clock, G: Gate, O: Opener<R>>(
     job: Job<'a, K, J, O::Store>,
 ) -> Result<Finished<K, O::Store>, RunFault>
     requires unsure { AreNeverClean O.Store.is_clean }
-    requires program { slice_get K.programs job.links.own ≡ Some (program_of image.now) }
+    requires program { slice_get K.programs job.links.ends.own ≡ Some (program_of image.now) }
     requires clean { K.OverClean → AreAlwaysClean O.Store.is_clean }
-    ensures end { let l = job.entry.links in
+    ensures end { let l = job.entry.links.ends in
         IfOk result (λ f. IsEndOf O.Store.is_clean (program_of image.entry.now) l.lines l.own l.n f) }
-    ensures own { IsOwnEnd cluster.now.config.now job.entry.links.own result }
+    ensures own { IsOwnEnd cluster.now.config.now job.entry.links.ends.own result }
 {
     let Job {
         links,
@@ -204,11 +204,11 @@ fn work<'a, K: Naming, J: Series, R: Wait + Clock, G: Gate, O: Opener<R>>(
     image: &'a Image,
     job: Job<'a, K, J, O::Store>,
 ) -> Result<Finished<K, O::Store>, RunFault>
-    requires program { slice_get K.programs job.links.own ≡ Some (program_of image.now) }
+    requires program { slice_get K.programs job.links.ends.own ≡ Some (program_of image.now) }
     requires clean { K.OverClean → AreAlwaysClean O.Store.is_clean }
-    ensures end { let l = job.entry.links in
+    ensures end { let l = job.entry.links.ends in
         IfOk result (λ f. IsEndOf O.Store.is_clean (program_of image.entry.now) l.lines l.own l.n f) }
-    ensures own { IsOwnEnd cluster.now.config.now job.entry.links.own result }
+    ensures own { IsOwnEnd cluster.now.config.now job.entry.links.ends.own result }
 {
     if cluster.opener.resumes() {
         work_on(cluster, image, job)
@@ -224,11 +224,11 @@ pub fn work_or_stop<'a, K: Naming, J: Series, R: Wait + Clock, G: Gate, O: Opene
     image: &'a Image,
     job: Job<'a, K, J, O::Store>,
 ) -> Result<Finished<K, O::Store>, RunFault>
-    requires program { slice_get K.programs job.links.own ≡ Some (program_of image.now) }
+    requires program { slice_get K.programs job.links.ends.own ≡ Some (program_of image.now) }
     requires clean { K.OverClean → AreAlwaysClean O.Store.is_clean }
-    ensures end { let l = job.entry.links in
+    ensures end { let l = job.entry.links.ends in
         IfOk result (λ f. IsEndOf O.Store.is_clean (program_of image.entry.now) l.lines l.own l.n f) }
-    ensures own { IsOwnEnd cluster.now.config.now job.entry.links.own result }
+    ensures own { IsOwnEnd cluster.now.config.now job.entry.links.ends.own result }
 {
     let result = work(cluster, image, job);
     if result.is_err() {

@@ -11,7 +11,7 @@ use Rattle.om_board.specs.Inboxes.{Line, Traffic, Takings, MatchPut, MatchTake}
 use Rattle.om_board.specs.declared.inbox.PutAnswer.{PutAnswer}
 use Rattle.om_board.specs.declared.inbox.PutAnswer.TheVariants.{Put, Full, Gone}
 use Rattle.om_board.proofs.ListLemmas.{none_in}
-use Rattle.om_worker_parts.specs.Links.{AreLinks, LinksState}
+use Rattle.om_worker_parts.specs.Links.{AreLinks, EndsState}
 use Rattle.om_worker_parts.specs.Network.{IsAt, Lines}
 
 -- ---- lists
@@ -35,12 +35,12 @@ take_line (Some message) old new h = ap (λ (t : Takings). t.line) h.0
 
 -- ---- the ends
 -- each row is as long as there are processes
-pub row_long : (l : LinksState) (puts : List Traffic) (takes : List Takings) (turn i : ℕ) (d : Vec Line Global) → AreLinks l puts takes turn → i ≡ l.own → length (get_or l.lines i d).items ≡ l.n
+pub row_long : (l : EndsState) (puts : List Traffic) (takes : List Takings) (turn i : ℕ) (d : Vec Line Global) → AreLinks l puts takes turn → i ≡ l.own → length (get_or l.lines i d).items ≡ l.n
 row_long l puts takes turn i d a at =
     a.network.receivers i (get_or l.lines i d) (slice_get-get_or l.lines i d (subst (λ j. j < length l.lines) (sym at) (subst (λ n. l.own < n) (sym a.network.senders) a.own)))
 
 -- the inbox of which a process has an end to put
-pub line_to : (l : LinksState) (puts : List Traffic) (takes : List Takings) (turn i to : ℕ) (d : Vec Line Global) (line : Line) → AreLinks l puts takes turn → i ≡ l.own → to < l.n
+pub line_to : (l : EndsState) (puts : List Traffic) (takes : List Takings) (turn i to : ℕ) (d : Vec Line Global) (line : Line) → AreLinks l puts takes turn → i ≡ l.own → to < l.n
     → line ≡ get_or (get_or l.lines i d).items to line → IsAt l.lines l.own to line
 line_to l puts takes turn i to d line a at lt is =
     let row = get_or l.lines i d in
@@ -50,10 +50,10 @@ line_to l puts takes turn i to d line a at lt is =
       slice_get_read row.items l.n to line (sym (row_long l puts takes turn i d a at)) lt is,
     )
 
-pub put_at : (l : LinksState) (puts : List Traffic) (takes : List Takings) (turn to : ℕ) (t : Traffic) → AreLinks l puts takes turn → to < l.n → t ≡ get_or puts to t → IsAt l.lines l.own to t.line
+pub put_at : (l : EndsState) (puts : List Traffic) (takes : List Takings) (turn to : ℕ) (t : Traffic) → AreLinks l puts takes turn → to < l.n → t ≡ get_or puts to t → IsAt l.lines l.own to t.line
 put_at l puts takes turn to t a lt is = a.putting to t (slice_get_read puts l.n to t (sym a.receivers) lt is)
 
-pub put_links : (l : LinksState) (puts : List Traffic) (takes : List Takings) (turn to : ℕ) (old new : Traffic) → AreLinks l puts takes turn → to < l.n → old ≡ get_or puts to old → new.line ≡ old.line
+pub put_links : (l : EndsState) (puts : List Traffic) (takes : List Takings) (turn to : ℕ) (old new : Traffic) → AreLinks l puts takes turn → to < l.n → old ≡ get_or puts to old → new.line ≡ old.line
     → AreLinks l (set puts to new) takes turn
 put_links l puts takes turn to old new a lt is same = record {
   own = a.own;
@@ -69,7 +69,7 @@ put_links l puts takes turn to old new a lt is same = record {
   in_turn = a.in_turn;
 }
 
-pub take_links : (l : LinksState) (puts : List Traffic) (takes : List Takings) (turn from next : ℕ) (old new : Takings) → AreLinks l puts takes turn → from < l.n → old ≡ get_or takes from old → new.line ≡ old.line → next < l.n
+pub take_links : (l : EndsState) (puts : List Traffic) (takes : List Takings) (turn from next : ℕ) (old new : Takings) → AreLinks l puts takes turn → from < l.n → old ≡ get_or takes from old → new.line ≡ old.line → next < l.n
     → AreLinks l puts (set takes from new) next
 take_links l puts takes turn from next old new a lt is same within = record {
   own = a.own;

@@ -1,4 +1,5 @@
 pub mod Acts
+pub mod Dropping
 pub mod Links
 pub mod Network
 pub mod Places

@@ -1,11 +1,12 @@
 //! The ends of inboxes that one process has.
 
-ghost use Rattle.std.specs.Prelude.{◌≡◌, ◌<◌, ◌≤◌, ◌+◌, ℕ, false, length, min, slice_index, slice_index_or, true};
+ghost use Rattle.std.specs.Prelude.{◌≡◌, ◌<◌, ◌≤◌, ◌+◌, ℕ, IfNone, IfSome, false, length, min, nat_eq, not, slice_index, slice_index_or, true};
 ghost use Rattle.om_board.specs.Inboxes.{MatchTake};
 ghost use Rattle.om_interval.specs.declared.pid.TheConstants.{MAX_PROCESSES};
 ghost use Rattle.om_process.specs.Core.{cluster_size};
 ghost use Rattle.om_worker_parts.specs.Network.{ArePuts, AreTakes, IsNetwork};
 ghost use Rattle.om_worker_parts.specs.Wiring.{HasEnds};
+ghost use Rattle.om_worker_parts.specs.Dropping.{AreAllOrNone};
 
 use crate::network::Ends;
 use crate::received::Received;
@@ -13,7 +14,7 @@ use om_board::{
     Bell, CAPACITY, Inbox, PutAnswer, PutPass, SenderSet, SpinOutcome, TakePass, ring_all,
 };
 use om_format::Message;
-use om_interval::{MAX_PROCESSES, Pid};
+use om_interval::{Bounds, DepVec, MAX_PROCESSES, Pid};
 use om_process::ProcCore;
 use std::alloc::{AllocError, Global};
 use std::marker::Model;
@@ -97,6 +98,8 @@ pub struct Links<'a> {
     taken: u64,
     // By receiver, whether there was no room for a message that is kept, when they were put last.
     left: [bool; MAX_PROCESSES],
+    // Whether there was room for all of them.
+    has_put_all: bool,
     // Whether something is to be put that the process did not send since.
     is_behind: bool,
     // By sender, how many messages were taken since its worker was woken for room.
@@ -108,7 +111,13 @@ impl<'a> Model for Links<'a> {
 
     ghost Value = { LinksState };
 
-    ghost view = { λ l. record { own = l.own; n = l.n; lines = l.inboxes.now } };
+    ghost view = { λ l. record {
+      ends = record { own = l.own; n = l.n; lines = l.inboxes.now };
+      put = l.put;
+      taken = l.taken;
+      has_put_all = l.has_put_all;
+      is_behind = l.is_behind;
+    } };
 
     ghost invariant = { λ l. AreLinks (record { own = l.own; n = l.n; lines = l.inboxes.now }) l.puts.items l.takes.items l.turn };
 }
@@ -156,9 +165,13 @@ impl<'a> Links<'a> {
         requires takes { length takes.items ≡ length inboxes.now }
         requires putting { ArePuts inboxes.now own puts.items }
         requires taking { AreTakes inboxes.now own takes.items }
-        ensures own { result.own ≡ own }
-        ensures n { result.n ≡ length inboxes.entry.now }
-        ensures lines { result.lines ≡ inboxes.entry.now }
+        ensures own { result.ends.own ≡ own }
+        ensures n { result.ends.n ≡ length inboxes.entry.now }
+        ensures lines { result.ends.lines ≡ inboxes.entry.now }
+        ensures put { result.put ≡ 0 }
+        ensures taken { result.taken ≡ 0 }
+        ensures all { result.has_put_all ≡ true }
+        ensures behind { result.is_behind ≡ false }
     {
         let n = inboxes.len();
         Links {
@@ -175,6 +188,7 @@ impl<'a> Links<'a> {
             put: 0,
             taken: 0,
             left: [false; MAX_PROCESSES],
+            has_put_all: true,
             is_behind: false,
             since: [0; MAX_PROCESSES],
         }
@@ -182,44 +196,52 @@ impl<'a> Links<'a> {
 
     /// Returns the process.
     pub fn own(&self) -> Pid
-        ensures own { result ≡ self.now.own }
-        ensures place { self.now.own < self.now.n }
+        ensures own { result ≡ self.now.ends.own }
+        ensures place { self.now.ends.own < self.now.ends.n }
     {
         self.own
     }
 
     /// Returns the number of processes.
     pub fn n(&self) -> usize
-        ensures n { result ≡ self.now.n }
-        ensures few { self.now.n ≤ MAX_PROCESSES }
+        ensures n { result ≡ self.now.ends.n }
+        ensures few { self.now.ends.n ≤ MAX_PROCESSES }
     {
         self.n
     }
 
     /// Returns the inboxes of the cluster.
     pub fn inboxes(&self) -> &'a [Vec<Inbox>]
-        ensures { result.now ≡ self.now.lines }
+        ensures { result.now ≡ self.now.ends.lines }
     {
         self.inboxes
     }
 
     /// Returns how many messages the process has put.
-    pub fn put(&self) -> u64 {
+    pub fn put(&self) -> u64
+        ensures { result ≡ self.now.put }
+    {
         self.put
     }
 
     /// Returns how many messages it has taken.
-    pub fn taken(&self) -> u64 {
+    pub fn taken(&self) -> u64
+        ensures { result ≡ self.now.taken }
+    {
         self.taken
     }
 
     /// Returns whether all messages that are kept were put, when they were put last.
-    pub fn has_put_all(&self) -> bool {
-        !self.left.iter().any(|left| *left)
+    pub fn has_put_all(&self) -> bool
+        ensures { result ≡ self.now.has_put_all }
+    {
+        self.has_put_all
     }
 
     /// Returns whether something is to be put though the process sends nothing.
-    pub fn is_behind(&self) -> bool {
+    pub fn is_behind(&self) -> bool
+        ensures { result ≡ self.now.is_behind }
+    {
         self.is_behind
     }
 
@@ -269,7 +291,7 @@ impl<'a> Links<'a> {
 
     /// Gives the passes of the process up.
     pub fn into_ends(self) -> Ends
-        ensures { HasEnds self.entry.n self.entry.lines self.entry.own result }
+        ensures { let e = self.entry.ends in HasEnds e.n e.lines e.own result }
     {
         let Links { puts, takes, .. } = self;
         Ends { puts, takes }
@@ -277,7 +299,11 @@ impl<'a> Links<'a> {
 
     /// Has all messages that are kept put once more.
     pub fn resend(&mut self)
-        ensures { self.new ≡ self.old }
+        ensures ends { self.new.ends ≡ self.old.ends }
+        ensures put { self.new.put ≡ self.old.put }
+        ensures taken { self.new.taken ≡ self.old.taken }
+        ensures all { self.new.has_put_all ≡ self.old.has_put_all }
+        ensures behind { self.new.is_behind ≡ true }
     {
         self.next = [0; MAX_PROCESSES];
         self.is_behind = true;
@@ -287,7 +313,11 @@ impl<'a> Links<'a> {
     /// received, as it stands. The others it would refuse as received before; and where it goes back, all that is kept is put once more
     /// after that round.
     pub fn resend_put(&mut self)
-        ensures { self.new ≡ self.old }
+        ensures ends { self.new.ends ≡ self.old.ends }
+        ensures put { self.new.put ≡ self.old.put }
+        ensures taken { self.new.taken ≡ self.old.taken }
+        ensures all { self.new.has_put_all ≡ self.old.has_put_all }
+        ensures behind { self.new.is_behind ≡ true }
     {
         let received = received_of(self.received, self.own);
         from_the_first_lacked(&mut self.next, &self.left, &received);
@@ -308,6 +338,42 @@ impl<'a> Links<'a> {
         }
     }
 
+    /// Tells all senders that the process takes no message any more, whatever fails.
+    pub fn tell_end(&self) {
+        if let Some(received) = self.received.get(self.own.index()) {
+            received.end();
+        }
+    }
+
+    // Returns whether a process takes no message any more, as far as it has told.
+    fn is_over(&self, place: usize) -> bool {
+        match self.received.get(place) {
+            Some(received) => received.is_over(),
+            None => false,
+        }
+    }
+
+    /// Returns bounds below which all messages stand to each process that takes none any more, and nothing else; none where there is
+    /// no such process.
+    pub fn bounds_of_ended(&self) -> Option<Bounds>
+        ensures places { IfSome result (λ bounds. length bounds.got ≡ self.now.ends.n) }
+        ensures whole { IfSome result (λ bounds. AreAllOrNone bounds.got) }
+        ensures outputs { IfSome result (λ bounds. bounds.released ≡ 0) }
+    {
+        let mut got = DepVec::zeros(self.n)?;
+        let mut is_any = false;
+        for to in 0..self.n {
+            if self.is_over(to) {
+                got.set(Pid::at(to), u32::MAX);
+                is_any = true;
+            }
+        }
+        if !is_any {
+            return None;
+        }
+        Some(Bounds { got, released: 0 })
+    }
+
     /// Puts the messages that are kept and not put yet, as far as there is room for them.
     pub fn put_all<R: Wait>(
         &mut self,
@@ -315,11 +381,14 @@ impl<'a> Links<'a> {
         alloc: Global,
         core: &ProcCore,
     ) -> Result<(), AllocError>
-        requires own { core.now.own ≡ self.old.own }
-        requires size { cluster_size core.now.now ≡ self.old.n }
-        ensures { self.new ≡ self.old }
+        requires own { core.now.own ≡ self.old.ends.own }
+        requires size { cluster_size core.now.now ≡ self.old.ends.n }
+        ensures ends { self.new.ends ≡ self.old.ends }
+        ensures taken { self.new.taken ≡ self.old.taken }
+        ensures behind { self.new.is_behind ≡ not self.new.has_put_all }
     {
         self.is_behind = false;
+        self.has_put_all = true;
         for to in 0..self.n {
             self.put_to(rt, alloc, core, Pid::at(to))?;
         }
@@ -333,10 +402,13 @@ impl<'a> Links<'a> {
         core: &ProcCore,
         to: Pid,
     ) -> Result<(), AllocError>
-        requires own { core.now.own ≡ self.old.own }
-        requires size { cluster_size core.now.now ≡ self.old.n }
-        requires to { to < self.old.n }
-        ensures { self.new ≡ self.old }
+        requires own { core.now.own ≡ self.old.ends.own }
+        requires size { cluster_size core.now.now ≡ self.old.ends.n }
+        requires to { to < self.old.ends.n }
+        requires behind { self.old.is_behind ≡ not self.old.has_put_all }
+        ensures ends { self.new.ends ≡ self.old.ends }
+        ensures taken { self.new.taken ≡ self.old.taken }
+        ensures behind { self.new.is_behind ≡ not self.new.has_put_all }
     {
         self.left[to.index()] = false;
         let outbox = core.outbox(to);
@@ -347,6 +419,7 @@ impl<'a> Links<'a> {
         for k in from..outbox.len() {
             if !self.put_one(rt, alloc, core, to, k)? {
                 self.left[to.index()] = true;
+                self.has_put_all = false;
                 self.is_behind = true;
                 return Ok(());
             }
@@ -363,10 +436,13 @@ impl<'a> Links<'a> {
         to: Pid,
         k: usize,
     ) -> Result<bool, AllocError>
-        requires own { core.now.own ≡ self.old.own }
-        requires size { cluster_size core.now.now ≡ self.old.n }
-        requires to { to < self.old.n }
-        ensures { self.new ≡ self.old }
+        requires own { core.now.own ≡ self.old.ends.own }
+        requires size { cluster_size core.now.now ≡ self.old.ends.n }
+        requires to { to < self.old.ends.n }
+        ensures ends { self.new.ends ≡ self.old.ends }
+        ensures taken { self.new.taken ≡ self.old.taken }
+        ensures all { self.new.has_put_all ≡ self.old.has_put_all }
+        ensures behind { self.new.is_behind ≡ self.old.is_behind }
     {
         let place = to.index();
         let inbox = &self.inboxes[self.own.index()][place];
@@ -387,7 +463,12 @@ impl<'a> Links<'a> {
 
     /// Takes a message from one of the senders, each in its turn, if there is one.
     pub fn take<R: Wait>(&mut self, rt: &R) -> Option<Taken>
-        ensures { self.new ≡ self.old }
+        ensures ends { self.new.ends ≡ self.old.ends }
+        ensures put { self.new.put ≡ self.old.put }
+        ensures all { self.new.has_put_all ≡ self.old.has_put_all }
+        ensures behind { self.new.is_behind ≡ self.old.is_behind }
+        ensures taken { IfSome result (λ _. self.new.taken ≡ min (self.old.taken + 1) u64.MAX) }
+        ensures none { IfNone result (self.new ≡ self.old) }
     {
         if let Some(bell) = self.bells.get(self.own.index()) {
             self.marked.add(bell.senders());
@@ -407,7 +488,12 @@ impl<'a> Links<'a> {
     // Takes a message from the next sender that may have put one, if there is one. Of an inbox that was empty its sender tells
     // once more.
     fn take_next<R: Wait>(&mut self, rt: &R) -> Option<Taken>
-        ensures { self.new ≡ self.old }
+        ensures ends { self.new.ends ≡ self.old.ends }
+        ensures put { self.new.put ≡ self.old.put }
+        ensures all { self.new.has_put_all ≡ self.old.has_put_all }
+        ensures behind { self.new.is_behind ≡ self.old.is_behind }
+        ensures taken { IfSome result (λ _. self.new.taken ≡ min (self.old.taken + 1) u64.MAX) }
+        ensures none { IfNone result (self.new ≡ self.old) }
     {
         let from = self.marked.first_from(self.turn);
         if from >= self.n {
@@ -426,8 +512,12 @@ impl<'a> Links<'a> {
 
     // Counts a message that was taken, and wakes its sender where that may wait for room.
     fn count_taken(&mut self, from: usize)
-        requires { from < self.old.n }
-        ensures { self.new ≡ self.old }
+        requires { from < self.old.ends.n }
+        ensures ends { self.new.ends ≡ self.old.ends }
+        ensures put { self.new.put ≡ self.old.put }
+        ensures all { self.new.has_put_all ≡ self.old.has_put_all }
+        ensures behind { self.new.is_behind ≡ self.old.is_behind }
+        ensures taken { self.new.taken ≡ min (self.old.taken + 1) u64.MAX }
     {
         self.taken = self.taken.saturating_add(1);
         let since = self.since[from].saturating_add(1);
@@ -441,13 +531,18 @@ impl<'a> Links<'a> {
 
     /// Drops what has come, and says whether anything had.
     pub fn drain<R: Wait>(&mut self, rt: &R) -> bool
-        ensures { self.new ≡ self.old }
+        ensures ends { self.new.ends ≡ self.old.ends }
+        ensures put { self.new.put ≡ self.old.put }
+        ensures all { self.new.has_put_all ≡ self.old.has_put_all }
+        ensures behind { self.new.is_behind ≡ self.old.is_behind }
+        ensures some { result ≡ not (nat_eq self.new.taken self.old.taken) }
     {
-        for k in 0..CAPACITY {
+        let before = self.taken;
+        for _ in 0..CAPACITY {
             if self.take(rt).is_none() {
-                return k > 0;
+                break;
             }
         }
-        true
+        self.taken != before
     }
 }

@@ -4,6 +4,7 @@ ghost use Rattle.std.specs.Prelude.{◌≡◌, ◌≢◌, ◌<◌, ◌↔◌, �
 ghost use mathlib.Core.List.{IsPrefix};
 ghost use Rattle.om_board.specs.Boards.{IsBoard};
 ghost use Rattle.om_board.specs.Fronts.{EndsWith};
+ghost use Rattle.om_manager.specs.State.{released_by};
 ghost use Rattle.om_member.specs.Handed.{outputs_from};
 ghost use Rattle.om_take_up.specs.TakenUp.{HasTakenUp};
 ghost use Rattle.om_report.specs.Harvests.{AreAllOf};
@@ -481,6 +482,18 @@ impl<'a, K: Naming> ManagerLink<'a, K> {
         let mut guard = self.shared.board.lock(rt);
         let pass = self.declare_at(rt, alloc, &mut *guard, diary, pass)?;
         Ok(pass)
+    }
+
+    /// Returns how many outputs of the process are released.
+    pub fn released<R: Wait>(&self, rt: &R) -> u64
+        ensures { UnderLock K.cell.n (λ before after.
+            (result ≡ length (released_by before.manager self.now.pid)) × (after ≡ before)) }
+    {
+        let mut guard = self.shared.board.lock(rt);
+        let board = &mut *guard;
+        let manager = board.manager();
+        let outputs = manager.released(self.pid);
+        outputs.len() as u64
     }
 
     /// Returns the outputs of the process, where as many are released as it made. Refused where memory runs out.

@@ -1,15 +1,17 @@
-//! What each process has received, for those that send to it.
+//! What each process has received, for those that send to it, and whether it takes nothing any more.
 
 use om_interval::{DepVec, Pid};
 use std::alloc::{AllocError, Global};
-use std::sync::atomic::AtomicU32;
 use std::sync::atomic::Ordering::SeqCst;
+use std::sync::atomic::{AtomicBool, AtomicU32};
 
 /// By sender, how many of its messages one process has received, as it stands. Its worker tells, and those of the senders ask: a
-/// message below is refused as one that was received before, so a resend may leave it out.
+/// message below is refused as one that was received before, so a resend may leave it out. And whether the process takes no message
+/// any more, whatever fails: then none to it need be kept.
 #[derive(Drop)]
 pub struct Received {
     counts: Vec<AtomicU32>,
+    is_over: AtomicBool,
 }
 
 impl Received {
@@ -19,7 +21,10 @@ impl Received {
         for _ in 0..n {
             counts.push(AtomicU32::new(0))?;
         }
-        Ok(Received { counts })
+        Ok(Received {
+            counts,
+            is_over: AtomicBool::new(false),
+        })
     }
 
     // Tells that so many of a sender's messages were received.
@@ -34,6 +39,16 @@ impl Received {
         for (told, count) in self.counts.iter().zip(got.as_slice()) {
             told.store(*count, SeqCst);
         }
+    }
+
+    // Tells that the process takes no message any more, whatever fails.
+    pub(crate) fn end(&self) {
+        self.is_over.store(true, SeqCst);
+    }
+
+    // Returns whether the process has told so.
+    pub(crate) fn is_over(&self) -> bool {
+        self.is_over.load(SeqCst)
     }
 
     // Returns how many of a sender's messages were received.

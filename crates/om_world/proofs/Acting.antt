@@ -9,7 +9,7 @@ use Rattle.om_stable.specs.declared.error.StoreError.TheVariants as store_errors
 use Rattle.om_process.specs.Core.{CoreState, cluster_size, with_pending}
 use Rattle.om_process.specs.Process.{Program}
 use Rattle.om_process.specs.declared.accept.Accept.{Accept}
-use Rattle.om_process.specs.declared.turns.Ran.{Ran}
+use Rattle.om_process.specs.declared.turns.RunEnd.{RunEnd}
 use Rattle.om_recover.specs.Cutting.{IsEffective}
 use Rattle.om_member.specs.declared.batch.Batch.{Batch}
 use Rattle.om_manager.specs.Bounds.{AreGotFrom}
@@ -138,8 +138,8 @@ module _ {S : Type 0} (content : S → Content) (is_clean : S → Bool) (failed 
         )
 
   -- ---- it ran
-  module _ (fuel : ℕ) (r : Result (Result Ran AllocError) NotUp) (up : IsUp v p) (goes : OnOk r (TakesTurns m fuel n)) (not : OnErr r (IsNotUp m.standing)) where
-    went : (a : Result Ran AllocError) × (r ≡ Ok a) × TakesTurns m fuel n
+  module _ (fuel : ℕ) (r : Result (Result RunEnd AllocError) NotUp) (up : IsUp v p) (goes : OnOk r (TakesTurns m fuel n)) (not : OnErr r (IsNotUp m.standing)) where
+    went : (a : Result RunEnd AllocError) × (r ≡ Ok a) × TakesTurns m fuel n
     went = was_up r (λ a. TakesTurns m fuel n) m.standing (is_up content (health_of is_clean failed) IsSound P L F ms M O p m at v e up) goes not
 
     goes_in : TakesTurns m fuel n → TakesTurnsAt (map core_in ms) p fuel (map core_in (set ms p n))
@@ -169,12 +169,12 @@ module _ {S : Type 0} (content : S → Content) (is_clean : S → Bool) (failed 
         let h = went.2 in
         sym (kept content (health_of is_clean failed) IsSound P L F ms M O p m at n (ap place_in h.others ∙ sym (ap place_of h.up)) (ap round_in h.others) (ap (λ (x : Member S). x.store) h.others) L F M) ∙ ap (λ (x : WorldState). record x { cores = map core_in (set ms p n) }) e
 
-    pub has_run : (told : Result Ran Refusal) → told ≡ told_of (λ _. why.Memory) r → IfOk r (λ a. IfOk a (λ ran. HasRun m fuel ran n)) → IfOk told (λ ran. HasRunAt v.cores p fuel ran (map core_in (set ms p n)))
+    pub has_run : (told : Result RunEnd Refusal) → told ≡ told_of (λ _. why.Memory) r → IfOk r (λ a. IfOk a (λ ran. HasRun m fuel ran n)) → IfOk told (λ ran. HasRunAt v.cores p fuel ran (map core_in (set ms p n)))
     has_run told is ran =
         let a = went.0 in
         subst (λ t. IfOk t (λ ran. HasRunAt v.cores p fuel ran (map core_in (set ms p n)))) (sym (is ∙ ap (told_of (λ _. why.Memory)) went.1)) (by a (subst (λ x. IfOk x (λ b. IfOk b (λ ran. HasRun m fuel ran n))) went.1 ran))
       where
-        by : (a : Result Ran AllocError) → IfOk a (λ ran. HasRun m fuel ran n) → IfOk (told_of (λ _. why.Memory) (Ok a)) (λ ran. HasRunAt v.cores p fuel ran (map core_in (set ms p n)))
+        by : (a : Result RunEnd AllocError) → IfOk a (λ ran. HasRun m fuel ran n) → IfOk (told_of (λ _. why.Memory) (Ok a)) (λ ran. HasRunAt v.cores p fuel ran (map core_in (set ms p n)))
         by (Ok ran) h = (
           h.before,
           h.after,
@@ -184,10 +184,10 @@ module _ {S : Type 0} (content : S → Content) (is_clean : S → Bool) (failed 
         )
         by (Err fault) h = tt
 
-    pub has_stopped : (told : Result Ran Refusal) → told ≡ told_of (λ _. why.Memory) r → IfErr told (λ reason. reason ≡ why.Memory)
+    pub has_stopped : (told : Result RunEnd Refusal) → told ≡ told_of (λ _. why.Memory) r → IfErr told (λ reason. reason ≡ why.Memory)
     has_stopped told is = subst (λ t. IfErr t (λ reason. reason ≡ why.Memory)) (sym (is ∙ ap (told_of (λ _. why.Memory)) went.1)) (by went.0)
       where
-        by : (a : Result Ran AllocError) → IfErr (told_of (λ _. why.Memory) (Ok a)) (λ reason. reason ≡ why.Memory)
+        by : (a : Result RunEnd AllocError) → IfErr (told_of (λ _. why.Memory) (Ok a)) (λ reason. reason ≡ why.Memory)
         by (Ok ran) = tt
         by (Err fault) = refl
 

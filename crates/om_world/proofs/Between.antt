@@ -7,7 +7,7 @@ use Rattle.om_format.specs.Queues.{QueueRecord}
 use Rattle.om_stable.specs.Content.{Content, Records, kept_by_cut, kept_by_prune}
 use Rattle.om_stable.proofs.RecordLemmas.{get-retained}
 use Rattle.om_process.specs.Dependencies.{count_from}
-use Rattle.om_process.specs.Replays.{process_of}
+use Rattle.om_process.specs.Replays.{process_of_checkpoint}
 use Rattle.om_manager.specs.State.{ManagerState, released_by}
 use Rattle.om_manager.specs.declared.presence.Presence.{Presence}
 use Rattle.om_world.specs.declared.entry.Entry.{Entry}
@@ -62,7 +62,7 @@ kept_more v m p qs same more k q queue at =
 
 stored_more : (v : Past) (m : ManagerState) (p : ℕ) (held : Content) → ((q : ℕ) → recovered m q ≡ recovered v.manager q) → length (released_by v.manager p) ≤ length (released_by m p) → IsStored v p held → IsStored (past_with v v.live m) p held
 stored_more v m p held same more s = record {
-  checkpoints = λ x bytes le at. let c = s.checkpoints x bytes le at in (c.0, c.1, c.2, c.3, c.4, kept_more v m p (process_of c.0).queues same more c.5);
+  checkpoints = λ x bytes le at. let c = s.checkpoints x bytes le at in (c.0, c.1, c.2, c.3, c.4, kept_more v m p (process_of_checkpoint c.0).queues same more c.5);
   receipts = s.receipts;
 }
 

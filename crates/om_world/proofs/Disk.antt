@@ -7,7 +7,7 @@ use Rattle.om_format.specs.Receipts.{ReceiptRecord}
 use Rattle.om_format.proofs.Checkpoints.{one_checkpoint}
 use Rattle.om_format.proofs.Receipts.{one_receipt}
 use Rattle.om_process.specs.Claims.{AtInterval, CheckpointOf, RecordOf}
-use Rattle.om_process.specs.Replays.{process_of}
+use Rattle.om_process.specs.Replays.{process_of_checkpoint}
 use Rattle.om_process.specs.Stored.{IsCheckpointAt, IsReceiptAt}
 use Rattle.om_recover.specs.Recoverable.{IsStable}
 use Rattle.om_stable.specs.Content.{Content, nothing}
@@ -47,7 +47,7 @@ world_true w h s = record { checkpoints = checkpoints; receipts = receipts }
     below : (x k : ℕ) → (x ≤ k) ⊎ (k < x)
     below x k = grind arith
 
-    checkpoints : (p x : ℕ) (c : CheckpointRecord) → p < n → IsCheckpointAt (held_in w p).checkpoints x c → AtInterval (received p w.live) x (CheckpointOf (program_at w.programs p) p n (process_of c))
+    checkpoints : (p x : ℕ) (c : CheckpointRecord) → p < n → IsCheckpointAt (held_in w p).checkpoints x c → AtInterval (received p w.live) x (CheckpointOf (program_at w.programs p) p n (process_of_checkpoint c))
     checkpoints p x c lt at =
         let ends = store_ends w p h s lt in
         let le : x ≤ length (received p w.live) = elim (below x (length (received p w.live))) [
@@ -56,7 +56,7 @@ world_true w h s = record { checkpoints = checkpoints; receipts = receipts }
         ] in
         let known = (s.stored p (held_in w p) (content_at w p h lt)).checkpoints x at.0 le at.1 in
         let same : known.0 ≡ c = (one_checkpoint at.0 known.1.0 at.2.0 known.0 c known.1.1 at.2.1).1 in
-        subst (λ (r : CheckpointRecord). AtInterval (received p w.live) x (CheckpointOf (program_at w.programs p) p n (process_of r))) same known.4
+        subst (λ (r : CheckpointRecord). AtInterval (received p w.live) x (CheckpointOf (program_at w.programs p) p n (process_of_checkpoint r))) same known.4
 
     receipts : (p x : ℕ) (r : ReceiptRecord) → p < n → 1 ≤ x → IsReceiptAt (held_in w p).receipts x r → AtInterval (received p w.live) x (RecordOf (program_at w.programs p) p n r)
     receipts p x r lt begun at =

@@ -11,7 +11,7 @@ use Rattle.om_stable.specs.Content.{Content}
 use Rattle.om_stable.proofs.RecordLemmas.{get-insert_here, get-insert_apart, get-with_all_above, get-with_all_at, with_all_from, with_all_keeps}
 use Rattle.om_process.specs.declared.row.PendingRow.{PendingRow}
 use Rattle.om_process.specs.Process.{Process, Program, Received}
-use Rattle.om_process.specs.Replays.{received_of, process_of}
+use Rattle.om_process.specs.Replays.{received_of, process_of_checkpoint}
 use Rattle.om_process.specs.Core.{CoreState, LoggedRecord}
 use Rattle.om_process.specs.Stores.{log_row, flushed_first, checkpointed, checkpoint_row, first_logged, HasGainedFirst, HasGainedCheckpoint}
 use Rattle.om_process.specs.steps.Pieces.{SpellLog}
@@ -225,7 +225,7 @@ checkpoint_stored v p a b c own g r s = record {
 }
   where
     go : (x : ℕ) (bytes : List ℕ) → x ≤ length (history v p) → get (insert a.checkpoints c.now.interval g.2) x ≡ Some bytes → (x ≡ c.now.interval) ⊎ (x ≢ c.now.interval)
-        → (d : CheckpointRecord) × IsSpelled d bytes × (d.head.pid ≡ p) × (d.n ≡ length v.programs) × AtInterval (history v p) x (CheckpointOf (program_at v.programs p) p (length v.programs) (process_of d)) × KeptWithin v p (process_of d).queues
+        → (d : CheckpointRecord) × IsSpelled d bytes × (d.head.pid ≡ p) × (d.n ≡ length v.programs) × AtInterval (history v p) x (CheckpointOf (program_at v.programs p) p (length v.programs) (process_of_checkpoint d)) × KeptWithin v p (process_of_checkpoint d).queues
     go x bytes le at (inr other) = s.checkpoints x bytes le (sym (get-insert_apart a.checkpoints c.now.interval g.2 x other) ∙ at)
     go x bytes le at (inl same) =
         let is : g.2 ≡ bytes = once g.2 bytes (sym (get-insert_here a.checkpoints c.now.interval g.2) ∙ ap (get (insert a.checkpoints c.now.interval g.2)) (sym same) ∙ at) in (
@@ -233,7 +233,7 @@ checkpoint_stored v p a b c own g r s = record {
           subst (IsSpelled g.0) is (V2, g.3),
           g.1.pid ∙ own.own,
           g.1.n ∙ own.size,
-          at_all (history v p) x (CheckpointOf (program_at v.programs p) p (length v.programs) (process_of g.0)) (same ∙ interval_is v p a c r) (subst (λ (d : Process). CheckpointOf (program_at v.programs p) p (length v.programs) d (history v p)) (sym g.1.process) r.state),
+          at_all (history v p) x (CheckpointOf (program_at v.programs p) p (length v.programs) (process_of_checkpoint g.0)) (same ∙ interval_is v p a c r) (subst (λ (d : Process). CheckpointOf (program_at v.programs p) p (length v.programs) d (history v p)) (sym g.1.process) r.state),
           subst (λ (d : Process). KeptWithin v p d.queues) (sym g.1.process) r.kept,
         )
 

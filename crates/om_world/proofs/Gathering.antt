@@ -10,7 +10,7 @@ use Rattle.om_format.specs.Queues.{QueueRecord}
 use Rattle.om_stable.specs.Content.{Content}
 use Rattle.om_process.specs.Process.{Process, Program, Received}
 use Rattle.om_process.specs.Core.{CoreState}
-use Rattle.om_process.specs.Replays.{process_of}
+use Rattle.om_process.specs.Replays.{process_of_checkpoint}
 use Rattle.om_process.specs.Dependencies.{Depends, count_from, greatest_from}
 use Rattle.om_process.specs.Claims.{AtInterval, CheckpointOf, Makes, RecordOf, RowOf}
 use Rattle.om_process.proofs.Making.{interval_along}
@@ -141,7 +141,7 @@ stored_on v live m p k held g is s = record {
   checkpoints = λ x bytes le at.
       let few = few_taken k (history v p) in let same = ap length is in
       let c = s.checkpoints x bytes (further x (length (take k (history v p))) (length (history v p)) (omega arith) (short k (history v p))) at in
-      (c.0, c.1, c.2, c.3, at_first (history v p) (received p live) x k (CheckpointOf (program_at v.programs p) p (length v.programs) (process_of c.0)) is (omega arith) c.4, kept_on v live m p (process_of c.0).queues g c.5);
+      (c.0, c.1, c.2, c.3, at_first (history v p) (received p live) x k (CheckpointOf (program_at v.programs p) p (length v.programs) (process_of_checkpoint c.0)) is (omega arith) c.4, kept_on v live m p (process_of_checkpoint c.0).queues g c.5);
   receipts = λ x bytes some le at.
       let few = few_taken k (history v p) in let same = ap length is in
       let r = s.receipts x bytes some (further x (length (take k (history v p))) (length (history v p)) (omega arith) (short k (history v p))) at in

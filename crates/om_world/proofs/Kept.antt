@@ -10,7 +10,7 @@ use Rattle.om_format.specs.Queues.{QueueRecord}
 use Rattle.om_stable.specs.Content.{Content}
 use Rattle.om_process.specs.Process.{Process, Program, Received, delivered, started}
 use Rattle.om_process.specs.Turns.{Turns, Reaches, IsWaiting}
-use Rattle.om_process.specs.Replays.{FitsReceipt, received_of, process_of}
+use Rattle.om_process.specs.Replays.{FitsReceipt, received_of, process_of_checkpoint}
 use Rattle.om_process.specs.Parts.{Grow}
 use Rattle.om_process.specs.Dependencies.{count_from}
 use Rattle.om_process.specs.Core.{CoreState, LoggedRecord, cluster_size, with_now}
@@ -193,7 +193,7 @@ up_to x y = grind arith
 stored_more : (v : Past) (e : Entry) (q : ℕ) (held : Content) → ((q : ℕ) → recovered v.manager q ≤ length (history v q)) → (q ≡ e.to → (c : CoreState) × NothingAbove held c (length (history v q)) × (first_logged c ≤ length (history v q) + 1)) → IsStored v q held → IsStored (with_entry v e) q held
 stored_more v e q held within above s = record {
   checkpoints = λ x bytes le at. elim (up_to x (length (history v q))) [
-    | inl old ↦ let c = s.checkpoints x bytes old at in (c.0, c.1, c.2, c.3, at_entry v e q x (CheckpointOf (program_at v.programs q) q (length v.programs) (process_of c.0)) c.4, kept_more v e q (process_of c.0).queues within c.5)
+    | inl old ↦ let c = s.checkpoints x bytes old at in (c.0, c.1, c.2, c.3, at_entry v e q x (CheckpointOf (program_at v.programs q) q (length v.programs) (process_of_checkpoint c.0)) c.4, kept_more v e q (process_of_checkpoint c.0).queues within c.5)
     | inr new ↦ absurd (none_some (get held.checkpoints x) bytes ((above (only x le new)).1.checkpoints x new) at)
   ];
   receipts = λ x bytes some le at. elim (up_to x (length (history v q))) [

@@ -6,7 +6,7 @@ use Rattle.om_format.specs.Queues.{QueueRecord}
 use Rattle.om_stable.specs.Content.{Content}
 use Rattle.om_process.specs.Process.{Received}
 use Rattle.om_process.specs.Core.{CoreState}
-use Rattle.om_process.specs.Replays.{process_of}
+use Rattle.om_process.specs.Replays.{process_of_checkpoint}
 use Rattle.om_process.specs.Dependencies.{count_from}
 use Rattle.om_process.specs.Claims.{AtInterval, Makes, RowOf}
 use Rattle.om_recover.specs.Rows.{HasRow}
@@ -88,7 +88,7 @@ kept_raised v m p qs g k q queue at =
 
 pub stored_raised : (v : Past) (m : ManagerState) (p : ℕ) (held : Content) → GoesOn v.manager m → IsStored v p held → IsStored (with_manager v m) p held
 stored_raised v m p held g s = record {
-  checkpoints = λ x bytes le at. let c = s.checkpoints x bytes le at in (c.0, c.1, c.2, c.3, c.4, kept_raised v m p (process_of c.0).queues g c.5);
+  checkpoints = λ x bytes le at. let c = s.checkpoints x bytes le at in (c.0, c.1, c.2, c.3, c.4, kept_raised v m p (process_of_checkpoint c.0).queues g c.5);
   receipts = s.receipts;
 }
 

@@ -8,7 +8,7 @@ use Rattle.om_format.specs.Queues.{QueueRecord}
 use Rattle.om_member.specs.Told.{row_for}
 use Rattle.om_process.specs.Core.{CoreState}
 use Rattle.om_process.specs.Dependencies.{count_from}
-use Rattle.om_process.specs.Replays.{process_of}
+use Rattle.om_process.specs.Replays.{process_of_checkpoint}
 use Rattle.om_process.specs.declared.row.PendingRow.{PendingRow}
 use Rattle.om_recover.specs.Rows.{HasRow}
 use Rattle.om_recover.specs.declared.row.Row.{Row}
@@ -123,7 +123,7 @@ kept_anew w m p qs k lt old q queue at =
 
 stored_anew : (w : WorldState) (m : ManagerState) (p : ℕ) (held : Content) → Starts w m → p < length w.programs → IsStored (past_of w) p held → IsStored (with_manager (past_of w) m) p held
 stored_anew w m p held k lt s = record {
-  checkpoints = λ x bytes le at. let c = s.checkpoints x bytes le at in (c.0, c.1, c.2, c.3, c.4, kept_anew w m p (process_of c.0).queues k lt c.5);
+  checkpoints = λ x bytes le at. let c = s.checkpoints x bytes le at in (c.0, c.1, c.2, c.3, c.4, kept_anew w m p (process_of_checkpoint c.0).queues k lt c.5);
   receipts = s.receipts;
 }
 

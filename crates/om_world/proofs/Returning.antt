@@ -13,7 +13,7 @@ use Rattle.om_stable.specs.Content.{Content, Records, IsEffective, kept_by_cut}
 use Rattle.om_stable.proofs.RecordLemmas.{get-retained}
 use Rattle.om_process.specs.Process.{Process}
 use Rattle.om_process.specs.Turns.{Reaches}
-use Rattle.om_process.specs.Replays.{FitsReceipt, Replayed, received_of, process_of}
+use Rattle.om_process.specs.Replays.{FitsReceipt, Replayed, received_of, process_of_checkpoint}
 use Rattle.om_process.specs.steps.Pieces.{receipts_of}
 use Rattle.om_process.specs.Claims.{CheckpointOf, RecordOf, RecordsAlong}
 use Rattle.om_process.specs.Core.{CoreState, cluster_size}
@@ -265,7 +265,7 @@ can_replay w p held h s lt news at =
     let named : c.0.head.interval ≡ e.0 = omega arith in
     let wanted : (y : ℕ) → e.0 < y → y ≤ x → IsSome (get held.receipts y) = λ y above within. store.1.receipts y (omega arith) (omega arith) in
     let all = stored_along v p held (x - e.0) e.0 kept (omega arith) (λ y above within. wanted y above (omega arith)) in
-    let t = replays (program_at v.programs p) p n (process_of c.0) (take e.0 (history v p)) all.0 whole all.3 in
+    let t = replays (program_at v.programs p) p n (process_of_checkpoint c.0) (take e.0 (history v p)) all.0 whole all.3 in
     let many = all.1 in (
       p,
       n,
@@ -299,13 +299,13 @@ replayed_at w p held core h s lt news at own size r =
     let least = r.begins.effective.within in
     let d = kept.checkpoints r.checkpoint.head.interval first.0 (omega arith) first.1 in
     let is : d.0 ≡ r.checkpoint = one_reading d.0 r.checkpoint first.0 d.1 first.2 in
-    let from : CheckpointOf (program_at v.programs p) p n (process_of r.checkpoint) (take r.checkpoint.head.interval (history v p)) = subst (λ c. CheckpointOf (program_at v.programs p) p n (process_of c) (take r.checkpoint.head.interval (history v p))) is d.4.1 in
-    let within : KeptWithin v p (process_of r.checkpoint).queues = subst (λ c. KeptWithin v p (process_of c).queues) is d.5 in
-    let mine : Replayed p n (process_of r.checkpoint) r.receipts core.now = subst (λ o. Replayed o n (process_of r.checkpoint) r.receipts core.now) own (subst (λ k. Replayed core.own k (process_of r.checkpoint) r.receipts core.now) size r.replayed) in
+    let from : CheckpointOf (program_at v.programs p) p n (process_of_checkpoint r.checkpoint) (take r.checkpoint.head.interval (history v p)) = subst (λ c. CheckpointOf (program_at v.programs p) p n (process_of_checkpoint c) (take r.checkpoint.head.interval (history v p))) is d.4.1 in
+    let within : KeptWithin v p (process_of_checkpoint r.checkpoint).queues = subst (λ c. KeptWithin v p (process_of_checkpoint c).queues) is d.5 in
+    let mine : Replayed p n (process_of_checkpoint r.checkpoint) r.receipts core.now = subst (λ o. Replayed o n (process_of_checkpoint r.checkpoint) r.receipts core.now) own (subst (λ k. Replayed core.own k (process_of_checkpoint r.checkpoint) r.receipts core.now) size r.replayed) in
     let far = r.last in
     let all : take r.checkpoint.head.interval (history v p) ++ receipts_of r.receipts ≡ history v p = read_along v p held r.checkpoint.head.interval r.receipts kept (omega arith) r.stored ∙ take_all (r.checkpoint.head.interval + length r.receipts) (history v p) (omega arith) in (
-      subst (CheckpointOf (program_at v.programs p) p n core.now) all (replayed_along (program_at v.programs p) p n (process_of r.checkpoint) core.now (take r.checkpoint.head.interval (history v p)) r.receipts from mine),
-      kept_grown v p (process_of r.checkpoint).interval (process_of r.checkpoint).queues core.now.queues (leads_grow p n (receipts_of r.receipts) (process_of r.checkpoint) core.now (replay_leads p n r.receipts (process_of r.checkpoint) core.now mine)).1 within,
+      subst (CheckpointOf (program_at v.programs p) p n core.now) all (replayed_along (program_at v.programs p) p n (process_of_checkpoint r.checkpoint) core.now (take r.checkpoint.head.interval (history v p)) r.receipts from mine),
+      kept_grown v p (process_of_checkpoint r.checkpoint).interval (process_of_checkpoint r.checkpoint).queues core.now.queues (leads_grow p n (receipts_of r.receipts) (process_of_checkpoint r.checkpoint) core.now (replay_leads p n r.receipts (process_of_checkpoint r.checkpoint) core.now mine)).1 within,
     )
   where
     one_reading : (a b : CheckpointRecord) (bytes : List ℕ) → IsSpelled a bytes → IsSpelled b bytes → a ≡ b

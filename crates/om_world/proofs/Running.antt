@@ -1,7 +1,7 @@
 -- What a run does, by its calls.
 use Rattle.std.proofs.Common.{◌≡◌, inr, ℕ, ◌-◌, ◌≤◌, List, ◌++◌, length, Option, Some, Result, Ok, Err, refl, sym, ap, ◌∙◌, subst, arith}
 use Rattle.std.specs.Prelude.{slice_get, slice_index}
-use Rattle.om_process.specs.declared.turns.Ran.{Ran}
+use Rattle.om_process.specs.declared.turns.RunEnd.{RunEnd}
 use Rattle.om_process.specs.Core.{CoreState, cluster_size, RunsTo}
 use Rattle.om_process.specs.Frames.{messages_to, outputs_of}
 use Rattle.om_process.specs.Kept.{queue_at}
@@ -157,7 +157,7 @@ hand_stopped w v u z p fuel sent few fault up k t s h known =
 pub hand_keeps : (w v u z : WorldState) (p fuel sent : ℕ) (few : List ℕ) (end : Result (Unit {0}) OutputError) → HasWent w p fuel v → HasSent v p few sent u → HasHandedIn u p end z → Keeps w z
 hand_keeps w v u z p fuel sent few end t s h = keeps_by w v u z p fuel t (s.3 ∙ ap (λ l. record v { frames = l }) (sym (ap (λ (x : WorldState). x.frames) s.3))) h.others (ap process_count h.more.1) h.released
 
-pub has_run : (w v u z : WorldState) (p fuel sent a b : ℕ) (few : List ℕ) (ran : Ran) → IsUp w p → WereKept w p few → WereMade w p a → HasWent w p fuel v → HasRunAt w.cores p fuel ran v.cores → HasSent v p few sent u → WereMade u p b
+pub has_run : (w v u z : WorldState) (p fuel sent a b : ℕ) (few : List ℕ) (ran : RunEnd) → IsUp w p → WereKept w p few → WereMade w p a → HasWent w p fuel v → HasRunAt w.cores p fuel ran v.cores → HasSent v p few sent u → WereMade u p b
     → HasHandedIn u p (Ok tt) z → IsKnown z → Happened w (Event.Run p fuel) (answers.Ran ran.steps ran.status sent (b - a)) z
 has_run w v u z p fuel sent a b few ran up k m t r s n h known =
     let new = sent_new w v u p fuel sent few k t s in

@@ -9,7 +9,7 @@ use Rattle.om_look.specs.Rows.{AreRowsOf, AreSegments, FollowOn, base_row, inter
 use Rattle.om_process.specs.Claims.{AtInterval, CheckpointOf, RecordOf, RowOf}
 use Rattle.om_process.specs.Dependencies.{Counts, Depends}
 use Rattle.om_process.specs.Process.{Process, Program, Received, delivered, raised, started}
-use Rattle.om_process.specs.Replays.{process_of, received_of}
+use Rattle.om_process.specs.Replays.{process_of_checkpoint, received_of}
 use Rattle.om_process.specs.Stored.{IsCheckpointAt, IsReceiptAt}
 use Rattle.om_process.specs.Turns.{Reaches}
 use Rattle.om_process.specs.declared.limits.TheConstants.{LAST_INTERVAL}
@@ -39,7 +39,7 @@ abbrev pub IsTrueRow : ℕ → ℕ → List Received → PendingRow → Type 0
 IsTrueRow own n h row = AtInterval h row.x (RowOf own n row.vec row.got)
 
 -- ---- a checkpoint
-pub base_true : (program : Program) (own n : ℕ) (h : List Received) (c : CheckpointRecord) → AtInterval h c.head.interval (CheckpointOf program own n (process_of c)) → IsTrueRow own n h (base_row c)
+pub base_true : (program : Program) (own n : ℕ) (h : List Received) (c : CheckpointRecord) → AtInterval h c.head.interval (CheckpointOf program own n (process_of_checkpoint c)) → IsTrueRow own n h (base_row c)
 base_true program own n h c at =
     let whole = at.1.0 in
     let row = row_along program own n (take c.head.interval h) whole at.1.1 in
@@ -138,7 +138,7 @@ follow_true program own n h held before (e ∷ records) (row ∷ rows) true_of t
 
 -- ---- segments
 segments_true : (program : Program) (own n : ℕ) (h : List Received) (held : Content) (o : Option ℕ) (segments : List (CheckpointRecord × List PendingRow))
-    → ((x : ℕ) (c : CheckpointRecord) → IsCheckpointAt held.checkpoints x c → AtInterval h x (CheckpointOf program own n (process_of c)))
+    → ((x : ℕ) (c : CheckpointRecord) → IsCheckpointAt held.checkpoints x c → AtInterval h x (CheckpointOf program own n (process_of_checkpoint c)))
     → ((x : ℕ) (r : ReceiptRecord) → 1 ≤ x → IsReceiptAt held.receipts x r → AtInterval h x (RecordOf program own n r))
     → AreSegments own n held o segments → Each (IsTrueRow own n h) (rows_of_segments segments)
 segments_true program own n h held None [] cs rs a = tt
@@ -154,7 +154,7 @@ segments_true program own n h held (Some to) (s ∷ more) cs rs a =
 
 -- the rows that true records stand for are true
 pub store_true : (program : Program) (own n : ℕ) (h : List Received) (held : Content) (rows : List PendingRow)
-    → ((x : ℕ) (c : CheckpointRecord) → IsCheckpointAt held.checkpoints x c → AtInterval h x (CheckpointOf program own n (process_of c)))
+    → ((x : ℕ) (c : CheckpointRecord) → IsCheckpointAt held.checkpoints x c → AtInterval h x (CheckpointOf program own n (process_of_checkpoint c)))
     → ((x : ℕ) (r : ReceiptRecord) → 1 ≤ x → IsReceiptAt held.receipts x r → AtInterval h x (RecordOf program own n r))
     → AreRowsOf own n held rows → (i : ℕ) (row : PendingRow) → slice_get rows i ≡ Some row → IsTrueRow own n h row
 store_true program own n h held rows cs rs a i row at =

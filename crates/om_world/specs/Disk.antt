@@ -8,7 +8,7 @@ use Rattle.om_manager.specs.State.{released_by}
 use Rattle.om_process.specs.Claims.{AtInterval, CheckpointOf, Makes, RecordOf}
 use Rattle.om_process.specs.Dependencies.{greatest_from}
 use Rattle.om_process.specs.Process.{Program}
-use Rattle.om_process.specs.Replays.{process_of}
+use Rattle.om_process.specs.Replays.{process_of_checkpoint}
 use Rattle.om_process.specs.Stored.{IsCheckpointAt, IsReceiptAt}
 use Rattle.om_process.specs.declared.limits.TheConstants.{LAST_INTERVAL}
 use Rattle.om_stable.specs.Content.{Content, nothing}
@@ -21,7 +21,7 @@ use Rattle.om_world.specs.declared.entry.Entry.{Entry}
 -- by process what its store holds: each record that can be read is that of its process in its interval along a run
 pub record AreTrue (programs : List Program) (live : List Entry) (held : ℕ → Content) : Type 0 where
   pub checkpoints : (p x : ℕ) (c : CheckpointRecord) → p < length programs → IsCheckpointAt (held p).checkpoints x c
-      → AtInterval (received p live) x (CheckpointOf (program_at programs p) p (length programs) (process_of c))
+      → AtInterval (received p live) x (CheckpointOf (program_at programs p) p (length programs) (process_of_checkpoint c))
   pub receipts : (p x : ℕ) (r : ReceiptRecord) → p < length programs → 1 ≤ x → IsReceiptAt (held p).receipts x r
       → AtInterval (received p live) x (RecordOf (program_at programs p) p (length programs) r)
 

@@ -9,7 +9,7 @@ use Rattle.om_process.specs.Process.{Process}
 use Rattle.om_process.specs.Core.{CoreState}
 use Rattle.om_process.specs.Turns.{Reaches}
 use Rattle.om_process.specs.Parts.{IsTrimmed}
-use Rattle.om_process.specs.Replays.{process_of}
+use Rattle.om_process.specs.Replays.{process_of_checkpoint}
 use Rattle.om_process.specs.Dependencies.{count_from}
 use Rattle.om_process.specs.Claims.{AtInterval, CheckpointOf, HasEntry, RecordOf, RowOf}
 use Rattle.om_recover.specs.Rows.{HasRow}
@@ -46,7 +46,7 @@ abbrev pub HasRecord : WorldState → ℕ → Content → RowKind → ℕ → Ty
 HasRecord w p held Checkpoint x =
     (bytes : List ℕ) × (get held.checkpoints x ≡ Some bytes)
     × (c : CheckpointRecord) × IsSpelled c bytes × (c.head.pid ≡ p) × (c.n ≡ length w.programs)
-    × AtInterval (received p w.live) x (CheckpointOf (program_at w.programs p) p (length w.programs) (process_of c))
+    × AtInterval (received p w.live) x (CheckpointOf (program_at w.programs p) p (length w.programs) (process_of_checkpoint c))
 HasRecord w p held Log x =
     (bytes : List ℕ) × (get held.receipts x ≡ Some bytes)
     × (r : ReceiptRecord) × SpellsReceipt r bytes

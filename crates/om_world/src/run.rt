@@ -18,12 +18,12 @@ use crate::world::World;
 use om_interval::{MAX_PROCESSES, Pid};
 use om_manager::OutputError;
 use om_member::NotUp;
-use om_process::{ProcCore, Ran};
+use om_process::{ProcCore, RunEnd};
 use om_stable::Stable;
 use std::alloc::{AllocError, Global};
 
 // Returns what is told of a run.
-fn told_ran(answer: Result<Result<Ran, AllocError>, NotUp>) -> Result<Ran, Refusal>
+fn told_ran(answer: Result<Result<RunEnd, AllocError>, NotUp>) -> Result<RunEnd, Refusal>
     ensures { result ≡ told_of (λ _. Refusal.Memory) answer }
 {
     Ok(answer??)
@@ -50,7 +50,7 @@ pub(crate) fn messages_kept(core: &ProcCore) -> [usize; MAX_PROCESSES]
 
 impl<S: Stable> World<S> {
     // Runs a process that is up.
-    pub(crate) fn turns(&mut self, alloc: Global, p: usize, fuel: u64) -> Result<Ran, Refusal>
+    pub(crate) fn turns(&mut self, alloc: Global, p: usize, fuel: u64) -> Result<RunEnd, Refusal>
         requires { IsUp self.old p }
         ensures goes_on { TakesTurnsAt self.old.cores p fuel self.new.cores }
         ensures rest { self.new ≡ record self.old { cores = self.new.cores } }

@@ -4,7 +4,7 @@ use mathlib.Core.Option.{some}
 use mathlib.Core.List.{IsPrefix}
 use lib.ListN.{get_elem?}
 use Rattle.atomic_table.specs.Seated.{TableId}
-use Rattle.om_interval.specs.Vectors.{IsBelow, words_of}
+use Rattle.om_interval.specs.Vectors.{IsBelow, padded_words}
 use Rattle.om_board.specs.CellNames.{CellName}
 use Rattle.om_board.specs.declared.cell.TheConstants.{WORDS}
 use Rattle.om_board.specs.declared.cell.View.{View}
@@ -12,7 +12,7 @@ use Rattle.om_board.specs.declared.front.Front.{Front}
 
 -- the words of a front: version, round, and an interval for each process that there can be
 abbrev pub words_in : Front → List ℕ
-words_in front = front.version ∷ front.round ∷ words_of front.vec
+words_in front = front.version ∷ front.round ∷ padded_words front.vec
 
 -- the front of n processes that the words spell
 abbrev pub front_in : ℕ → List ℕ → Front

@@ -9,7 +9,7 @@ use Rattle.om_stable.specs.Content.{Content, IsFree}
 use Rattle.om_process.specs.declared.replay.ReplayFault.{ReplayFault}
 use Rattle.om_process.specs.declared.replay.ReplayFault.TheVariants.{NoCheckpoint, Damaged, MissingReceipt, Mismatch, Fault, Memory}
 use Rattle.om_process.specs.Process.{Process}
-use Rattle.om_process.specs.Replays.{Replayed, process_of}
+use Rattle.om_process.specs.Replays.{Replayed, process_of_checkpoint}
 use Rattle.om_process.specs.Core.{CoreState, cluster_size}
 use Rattle.om_process.specs.Stored.{anyone, AreReceiptsAfter, IsDamagedCheckpoint, IsReceiptAt}
 use Rattle.om_process.specs.steps.Fitting.{DoesNotFit}
@@ -80,7 +80,7 @@ pub record ComesFrom (held : Content) (x : ℕ) (c : CheckpointRecord) (y : ℕ)
   pub stored : AreReceiptsAfter held.receipts c.head.interval receipts
   pub next : y ≡ c.head.interval + length receipts + 1
   pub within : y ≤ x
-  pub replayed : Replayed c.head.pid c.n (process_of c) receipts s
+  pub replayed : Replayed c.head.pid c.n (process_of_checkpoint c) receipts s
 
 -- no receipt up to x is missing
 abbrev pub HasReceipts : Content → ℕ → CheckpointRecord → Type 0
@@ -108,4 +108,4 @@ pub record IsReplayFrom (held : Content) (x : ℕ) (c : CheckpointRecord) (core 
   pub receipts : List ReceiptRecord
   pub stored : AreReceiptsAfter held.receipts c.head.interval receipts
   pub last : x ≡ c.head.interval + length receipts
-  pub replayed : Replayed c.head.pid c.n (process_of c) receipts core.now
+  pub replayed : Replayed c.head.pid c.n (process_of_checkpoint c) receipts core.now

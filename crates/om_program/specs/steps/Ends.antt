@@ -1,7 +1,7 @@
 -- How an answer ends that is written to standard output, with which status, and what a debugger is refused for.
 use Rattle.std.specs.Prelude.{◌≡◌, ◌⊎◌, ℕ, List, None, Ok, Err, Result}
 use Rattle.om_arguments.specs.declared.arguments.Request.TheVariants as requests
-use Rattle.om_arguments.specs.declared.debug_request.SymbolFile.{SymbolFile as Given}
+use Rattle.om_arguments.specs.declared.debug_request.SymbolFile.{SymbolFile}
 use Rattle.om_commands.specs.Command.{IsSilent}
 use Rattle.om_commands.specs.declared.error.CommandError.TheVariants.{CannotWrite}
 use Rattle.om_debug_command.specs.Debug.{IsErrorOfDebug}
@@ -24,7 +24,7 @@ IsSilentRefusal (Refused error) kept = IsSilent error kept
 IsSilentRefusal NoSuchName kept = ⊥
 
 -- the error refuses to show all processes of a record, with these files; or one, by its name
-abbrev pub IsRefusalOfAll : List Given → List ℕ → DebugError → Type 0
+abbrev pub IsRefusalOfAll : List SymbolFile → List ℕ → DebugError → Type 0
 IsRefusalOfAll given bytes error = IsRefusal (requests.Debug None) given bytes error
 
 abbrev pub IsRefusalOfOne : List ℕ → List ℕ → DebugError → Type 0

@@ -193,28 +193,17 @@ fn are_first(rt: &impl Abort, alloc: Global, written: &str) -> bool {
 // A writer that refuses ends the run, wherever it does. What it took before is right.
 #[test]
 fn a_writer_refuses(rt: HostRuntime) {
-    let input = ring(&rt, rt.alloc(), 8, "");
-    for room in &ROOMS {
-        check_refused(&rt, rt.alloc(), *room, input.as_bytes());
+    for room in [0, LINE, 100, 48 * LINE, 48 * LINE + 1] {
+        let input = ring(&rt, rt.alloc(), 8, "");
+        let (answer, written) = narrowed(&rt, rt.alloc(), room, input.as_bytes());
+        let lines = written.get(..room.min(48 * LINE)).expect(&rt, "lines");
+        assert!(&rt;
+            answer == Err(CommandError::CannotWrite)
+                && written.len() == room
+                && are_first(&rt, rt.alloc(), lines),
+            "{written}"
+        );
     }
-}
-
-// How many bytes a writer takes.
-static ROOMS: [usize; 5] = [0, LINE, 100, 48 * LINE, 48 * LINE + 1];
-
-fn check_refused<R: Threads + Wait + Clock + Abort + Sync>(
-    rt: &R,
-    alloc: Global,
-    room: usize,
-    input: &[u8],
-) {
-    let (answer, written) = narrowed(rt, alloc, room, input);
-    assert!(rt;
-        answer == Err(CommandError::CannotWrite) && written.len() == room,
-        "{room}"
-    );
-    let lines = written.get(..room.min(48 * LINE)).expect(rt, "lines");
-    assert!(rt; are_first(rt, alloc, lines), "{written}");
 }
 
 // c has turns for many minutes: the run ends in time only where an output is written as soon as it is released.

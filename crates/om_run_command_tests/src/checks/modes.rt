@@ -210,11 +210,12 @@ fn check_altered<R: Threads + Wait + Clock + Abort + Sync>(
     let mut beside = Beside::new(alloc);
     let input = TWICE.as_bytes();
     let told = carry_out(rt, alloc, mode, &AllAltering, &mut beside, input);
-    drop(beside);
     for (row, answer, text) in &ALTERED {
         if *row == mode {
-            let is_right = told.0 == *answer && told.1.as_slice() == text.as_bytes();
-            assert!(rt; is_right, "{mode:?}");
+            assert!(rt;
+                told.0 == *answer && told.1.as_slice() == text.as_bytes(),
+                "{mode:?}"
+            );
         }
     }
 }
@@ -265,12 +266,12 @@ fn check_file<R: Threads + Wait + Clock + Abort + Sync>(
     let mut beside = Beside::new(alloc);
     let input = TWICE.as_bytes();
     let told = carry_out(rt, alloc, mode, &InMemory, &mut beside, input);
+    let file = beside.file.as_slice();
     let is_right = if is_written {
-        is_script(rt, &beside.file, head) && beside.file.contains(&b'#') == has_comments
+        is_script(rt, file, head) && file.contains(&b'#') == has_comments
     } else {
-        beside.file.is_empty()
+        file.is_empty()
     };
-    drop(beside);
     assert!(rt; told.0 == Ok(()) && is_right, "{mode:?}");
 }
 

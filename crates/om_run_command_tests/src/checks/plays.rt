@@ -241,22 +241,18 @@ end p3 ended 0
 fn programs_of(rt: &impl Abort, alloc: Global, text: &str) -> Programs {
     let mut programs = Programs::new(alloc);
     for line in text.lines() {
-        add_line(rt, alloc, &mut programs, line);
+        let mut words = Vec::new(alloc);
+        for word in line.split_whitespace() {
+            words.push(word.as_bytes()).expect(rt, "memory");
+        }
+        let added = match words.as_slice() {
+            [b"program", words @ ..] => programs.add_program(alloc, Ext::I, words),
+            [b"proc", words @ ..] => programs.add_process(alloc, words),
+            _ => Ok(()),
+        };
+        added.expect(rt, "a line of a program or a process");
     }
     programs
-}
-
-fn add_line(rt: &impl Abort, alloc: Global, programs: &mut Programs, line: &str) {
-    let mut words = Vec::new(alloc);
-    for word in line.split_whitespace() {
-        words.push(word.as_bytes()).expect(rt, "memory");
-    }
-    let added = match words.as_slice() {
-        [b"program", words @ ..] => programs.add_program(alloc, Ext::I, words),
-        [b"proc", words @ ..] => programs.add_process(alloc, words),
-        _ => Ok(()),
-    };
-    added.expect(rt, "a line of a program or a process");
 }
 
 // The report of the run in which process 0 receives from 1 and then from 2.

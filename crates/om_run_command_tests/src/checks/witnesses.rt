@@ -30,13 +30,10 @@ fn outputs_of(rt: &impl Abort, alloc: Global, text: &[u8]) -> String {
     outputs
 }
 
-// Returns what a run writes whose witness is kept.
-fn witnessed<R: Threads + Wait + Clock + Abort + Sync>(
-    rt: &R,
-    alloc: Global,
-    input: &str,
-    beside: &mut Beside,
-) -> Vec<u8> {
+// Runs a cluster and plays its witness, which comes to the same outputs; and how many lines they have.
+fn check_witness<R: Threads + Wait + Clock + Abort + Sync>(rt: &R, alloc: Global, input: &str) {
+    let mut beside = Beside::new(alloc);
+    let mut played = Vec::new(alloc);
     let (ran, written) = run_file(
         rt,
         alloc,
@@ -44,37 +41,23 @@ fn witnessed<R: Threads + Wait + Clock + Abort + Sync>(
         BytesForm::Hex,
         TURNS,
         &InMemory,
-        beside,
+        &mut beside,
         &mut input.as_bytes(),
         Vec::new(alloc),
     );
     assert!(rt; ran.is_ok(), "{input}");
-    written
-}
-
-// Returns what `sim` writes of a witness.
-fn played(rt: &impl Abort, alloc: Global, mut script: &[u8]) -> Vec<u8> {
-    let mut played = Vec::new(alloc);
-    let simulated = sim(alloc, BytesForm::Hex, &mut script, &mut played);
-    assert!(rt; simulated == Ok(()));
-    played
-}
-
-// Both texts have the same lines of outputs, and some.
-fn check_outputs(rt: &impl Abort, alloc: Global, written: &[u8], played: &[u8]) {
-    let outputs = outputs_of(rt, alloc, written);
-    let others = outputs_of(rt, alloc, played);
-    let is_right = !outputs.is_empty() && outputs.as_str() == others.as_str();
-    assert!(rt; is_right, "{outputs}");
-}
-
-// Runs a cluster and plays its witness, which comes to the same outputs.
-fn check_witness<R: Threads + Wait + Clock + Abort + Sync>(rt: &R, alloc: Global, input: &str) {
-    let mut beside = Beside::new(alloc);
-    let written = witnessed(rt, alloc, input, &mut beside);
-    let played = played(rt, alloc, beside.file.as_slice());
-    drop(beside);
-    check_outputs(rt, alloc, &written, &played);
+    let simulated = sim(
+        alloc,
+        BytesForm::Hex,
+        &mut beside.file.as_slice(),
+        &mut played,
+    );
+    assert!(rt; simulated == Ok(()), "{input}");
+    let outputs = outputs_of(rt, alloc, &written);
+    assert!(rt;
+        !outputs.is_empty() && outputs.as_str() == outputs_of(rt, alloc, &played).as_str(),
+        "{input}"
+    );
 }
 
 #[test]

@@ -39,7 +39,7 @@ impl<'a, K: Naming> Worker<'a, K> {
     // Takes a turn in which nothing happens to a process that is up. Where all that it keeps was resent, and put, the board knows
     // while it sleeps that it waits.
     pub(super) fn rest<R: Wait + Clock>(&mut self, rt: &R) -> Pause
-        ensures same { self.new.links ≡ self.old.links }
+        ensures same { self.new.links.ends ≡ self.old.links.ends }
     {
         if self.resent && !self.is_away && self.links.has_put_all() {
             self.wait(rt)
@@ -53,7 +53,7 @@ impl<'a, K: Naming> Worker<'a, K> {
     // Sleeps, while the board knows that the process waits. Where all wait, nothing can happen any more: all turns that are left are
     // spent at once, and the run ends with `Turns`.
     fn wait<R: Wait + Clock>(&mut self, rt: &R) -> Pause
-        ensures same { self.new.links ≡ self.old.links }
+        ensures same { self.new.links.ends ≡ self.old.links.ends }
         ensures waited { HasRested K.cell.n self.old.manager_link.pid self.old.manager_link.round self.old.idle.turns result self.new.extra }
     {
         if self
@@ -71,7 +71,7 @@ impl<'a, K: Naming> Worker<'a, K> {
 
     // Counts a pause of a process that is up.
     fn count<R: Wait>(&mut self, rt: &R, pause: Pause)
-        ensures same { self.new.links ≡ self.old.links }
+        ensures same { self.new.links.ends ≡ self.old.links.ends }
         ensures counted { self.new.extra + 1 ≡ pause_turns self.old.idle.turns pause }
     {
         if self.pass(pause) {
@@ -83,7 +83,7 @@ impl<'a, K: Naming> Worker<'a, K> {
     // Counts a pause, and says whether all that is kept is put once more after it. Where there was no room for some of it, that is
     // put first: a resend would begin it anew each time.
     fn pass(&mut self, pause: Pause) -> bool
-        ensures same { self.new.links ≡ self.old.links }
+        ensures same { self.new.links.ends ≡ self.old.links.ends }
         ensures counted { self.new.extra + 1 ≡ pause_turns self.old.idle.turns pause }
     {
         let passed = self.idle.count(pause);
@@ -97,7 +97,7 @@ impl<'a, K: Naming> Worker<'a, K> {
 
     // Takes a turn in which nothing happens to a process that is in, or down.
     pub(crate) fn doze<R: Wait + Clock>(&mut self, rt: &R)
-        ensures same { self.new.links ≡ self.old.links }
+        ensures same { self.new.links.ends ≡ self.old.links.ends }
     {
         let pause = pause_of(rt, &self.links, &self.idle, &mut self.patience);
         self.pass(pause);

@@ -5,9 +5,11 @@ ghost use Rattle.om_process.specs.Flights.{landed};
 ghost use Rattle.om_process.specs.Trims.{trimmed};
 ghost use Rattle.om_node.specs.Storing.{HasStored};
 ghost use Rattle.om_worker.specs.steps.Turning.{HasStoredBy, is_multiple_of};
+ghost use Rattle.om_worker.specs.steps.Dropping.{HasDropped};
 
 use super::{ALL_RECEIPTS, Worker};
 use om_board::Naming;
+use om_interval::{Bounds, DepVec};
 use om_node::{Deposit, Due, Landing, Limits, Node, WorkerFault};
 use om_stable::{Ledger, Stable};
 use om_tickets::Series;
@@ -44,7 +46,7 @@ impl<'a, K: Naming> Worker<'a, K> {
         node: &mut Node<'a, J, S>,
         x: u32,
     ) -> Result<TurnOutcome, WorkerFault>
-        ensures same { self.new.links ≡ self.old.links }
+        ensures same { self.new.links.ends ≡ self.old.links.ends }
         ensures member { node.new.member ≡ node.old.member }
         ensures now { node.new.core.now ≡ node.old.core.now }
         ensures killed { Contains self.old.kills.items x → result ≡ Ok TurnOutcome.Failed }
@@ -70,7 +72,7 @@ impl<'a, K: Naming> Worker<'a, K> {
         node: &mut Node<'a, J, S>,
         x: u32,
     ) -> Result<(), WorkerFault>
-        ensures same { self.new.links ≡ self.old.links }
+        ensures same { self.new.links.ends ≡ self.old.links.ends }
         ensures member { node.new.member ≡ node.old.member }
         ensures now { node.new.core.now ≡ node.old.core.now }
         ensures stored { let w = self.old in OnOk result
@@ -91,7 +93,7 @@ impl<'a, K: Naming> Worker<'a, K> {
 
     // Returns whether the process is to fail in this interval, which is then done with.
     fn is_to_fail(&mut self, x: u32) -> bool
-        ensures same { self.new.links ≡ self.old.links }
+        ensures same { self.new.links.ends ≡ self.old.links.ends }
         ensures config { self.new.config ≡ self.old.config }
         ensures kept { self.new.kept ≡ self.old.kept }
         ensures named { IsTrue result ↔ Contains self.old.kills.items x }
@@ -114,7 +116,7 @@ impl<'a, K: Naming> Worker<'a, K> {
         ended: bool,
     ) -> Result<(), WorkerFault>
         requires { IfSome limits (λ l. length l.bounds.got ≡ node.old.member.n) }
-        ensures same { self.new.links ≡ self.old.links }
+        ensures same { self.new.links.ends ≡ self.old.links.ends }
         ensures member { node.new.member ≡ node.old.member }
         ensures trimmed { OnOk result (IfSome limits (λ l. node.new.core.now
             ≡ trimmed (l.bounds.got ++ l.bounds.released ∷ []) node.old.core.now)) }
@@ -137,7 +139,7 @@ impl<'a, K: Naming> Worker<'a, K> {
         limits: &Limits,
     ) -> Result<(), WorkerFault>
         requires { length limits.now.bounds.got ≡ node.old.member.n }
-        ensures same { self.new.links ≡ self.old.links }
+        ensures same { self.new.links.ends ≡ self.old.links.ends }
         ensures member { node.new.member ≡ node.old.member }
         ensures due { OnOk result (IfSome self.new.due (λ due. due.checkpoint ≡ limits.now.checkpoint)) }
         ensures owed { OnOk result (IsSome self.new.due) }
@@ -157,13 +159,53 @@ impl<'a, K: Naming> Worker<'a, K> {
         Ok(())
     }
 
-    // Stores what is due there.
+    // Drops the messages to processes that take none any more, where the process was trimmed. Of a run that is recorded they are
+    // kept: its record is played in a world, whose resends send all that is not received.
+    pub(super) fn drop_untaken<J: Series, S: Stable>(
+        &self,
+        node: &mut Node<'a, J, S>,
+        is_trimmed: bool,
+    )
+        requires { node.old.member.n ≡ K.cell.n }
+        ensures member { node.new.member ≡ node.old.member }
+        ensures dropped { HasDropped node.old.core node.new.core }
+    {
+        if !is_trimmed || self.diary.is_kept() {
+            return;
+        }
+        if let Some(bounds) = self.links.bounds_of_ended() {
+            node.trim(&bounds);
+        }
+    }
+
+    // Drops the outputs of the process that are released, before they are copied: else each would stand in memory three times. Of a run
+    // that is recorded they are kept, since its record has no event for it.
+    pub(crate) fn drop_released<J: Series, S: Stable, R: Wait>(
+        &self,
+        rt: &R,
+        node: &mut Node<'a, J, S>,
+    )
+        requires { node.old.member.n ≡ K.cell.n }
+        ensures member { node.new.member ≡ node.old.member }
+        ensures away { node.new.away ≡ node.old.away }
+    {
+        if self.diary.is_kept() {
+            return;
+        }
+        let Some(got) = DepVec::zeros(self.n()) else {
+            return;
+        };
+        let released = self.manager_link.released(rt);
+        node.trim(&Bounds { got, released });
+    }
+
+    // Stores what the store of the process has to hold beside its records, where something is due.
     fn store_due<J: Series, S: Ledger>(
         &mut self,
         alloc: Global,
         node: &mut Node<'a, J, S>,
     ) -> Result<(), WorkerFault>
-        ensures same { self.new.links ≡ self.old.links }
+        ensures same { self.new.links.ends ≡ self.old.links.ends }
         ensures member { node.new.member ≡ node.old.member }
         ensures now { node.new.core.now ≡ node.old.core.now }
         ensures settled { OnOk result (self.new.due ≡ None) }
@@ -182,7 +224,7 @@ impl<'a, K: Naming> Worker<'a, K> {
         k: usize,
         is_checkpoint_due: bool,
     ) -> Result<(), WorkerFault>
-        ensures same { self.new.links ≡ self.old.links }
+        ensures same { self.new.links.ends ≡ self.old.links.ends }
         ensures member { node.new.member ≡ node.old.member }
         ensures now { node.new.core.now ≡ node.old.core.now }
         ensures stored { OnOk result (HasStored k is_checkpoint_due node.old.core node.new.core) }
@@ -208,7 +250,7 @@ impl<'a, K: Naming> Worker<'a, K> {
         alloc: Global,
         node: &mut Node<'a, J, S>,
     ) -> Result<(), WorkerFault>
-        ensures same { self.new.links ≡ self.old.links }
+        ensures same { self.new.links.ends ≡ self.old.links.ends }
         ensures member { node.new.member ≡ node.old.member }
         ensures now { node.new.core.now ≡ node.old.core.now }
     {
@@ -236,7 +278,7 @@ impl<'a, K: Naming> Worker<'a, K> {
         is_log_due: bool,
         is_checkpoint_due: bool,
     ) -> Result<(), WorkerFault>
-        ensures same { self.new.links ≡ self.old.links }
+        ensures same { self.new.links.ends ≡ self.old.links.ends }
         ensures member { node.new.member ≡ node.old.member }
         ensures now { node.new.core.now ≡ node.old.core.now }
     {
@@ -264,7 +306,7 @@ impl<'a, K: Naming> Worker<'a, K> {
         rt: &R,
         node: &mut Node<'a, J, S>,
     ) -> Result<(), WorkerFault>
-        ensures same { self.new.links ≡ self.old.links }
+        ensures same { self.new.links.ends ≡ self.old.links.ends }
         ensures member { node.new.member ≡ node.old.member }
     {
         if !self.is_away {
@@ -282,7 +324,7 @@ impl<'a, K: Naming> Worker<'a, K> {
         rt: &R,
         node: &mut Node<'a, J, S>,
     ) -> Result<(), WorkerFault>
-        ensures same { self.new.links ≡ self.old.links }
+        ensures same { self.new.links.ends ≡ self.old.links.ends }
         ensures member { node.new.member ≡ node.old.member }
         ensures landed { OnOk result (node.new.away ≡ false) }
         ensures now { node.new.core.now ≡ node.old.core.now }
@@ -302,7 +344,7 @@ impl<'a, K: Naming> Worker<'a, K> {
         node: &mut Node<'a, J, S>,
         landing: Landing<J, S>,
     ) -> Result<(), WorkerFault>
-        ensures same { self.new.links ≡ self.old.links }
+        ensures same { self.new.links.ends ≡ self.old.links.ends }
         ensures member { node.new.member ≡ node.old.member }
         ensures here { OnOk result (node.new.away ≡ false) }
         ensures now { node.new.core.now ≡ node.old.core.now }

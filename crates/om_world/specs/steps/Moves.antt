@@ -20,7 +20,7 @@ use Rattle.om_world.specs.World.{Health, SinceState, WorldState, IsKnown, all_cl
 use Rattle.om_format.specs.declared.message.Message.{Message}
 use Rattle.om_process.specs.declared.accept.Accept.{Accept}
 use Rattle.om_process.specs.declared.accept.Accept.TheVariants as accepts
-use Rattle.om_process.specs.declared.turns.Ran.{Ran}
+use Rattle.om_process.specs.declared.turns.RunEnd.{RunEnd}
 use Rattle.om_process.specs.Accepts.{Answers, taken}
 use Rattle.om_world.specs.declared.event.Answer.{Answer}
 use Rattle.om_world.specs.declared.event.Answer.TheVariants as answers
@@ -50,7 +50,7 @@ pub record TakesTurnsAt (old : List (Option CoreState)) (p fuel : ℕ) (new : Li
   pub cores : new ≡ slice_set old p (Some after)
 
 -- and it has run
-abbrev pub HasRunAt : List (Option CoreState) → ℕ → ℕ → Ran → List (Option CoreState) → Type 0
+abbrev pub HasRunAt : List (Option CoreState) → ℕ → ℕ → RunEnd → List (Option CoreState) → Type 0
 HasRunAt old p fuel ran new =
     (c : CoreState) × (d : CoreState) × (slice_get old p ≡ Some (Some c)) × RunsTo c fuel ran.steps ran.status d
     × (new ≡ slice_set old p (Some d))

@@ -13,7 +13,7 @@ use Rattle.om_process.specs.declared.row.PendingRow.{PendingRow}
 use Rattle.om_process.specs.Process.{Program, Process, Received}
 use Rattle.om_process.specs.Core.{CoreState, LoggedRecord, cluster_size}
 use Rattle.om_process.specs.Turns.{Reaches}
-use Rattle.om_process.specs.Replays.{FitsReceipt, received_of, process_of}
+use Rattle.om_process.specs.Replays.{FitsReceipt, received_of, process_of_checkpoint}
 use Rattle.om_process.specs.Dependencies.{count_from}
 use Rattle.om_process.specs.Claims.{AtInterval, Makes, RowOf, CheckpointOf, RecordOf}
 use Rattle.om_process.specs.Stores.{first_logged}
@@ -59,8 +59,8 @@ KeptWithin w p qs = (q : ℕ) (queue : QueueRecord) → slice_get qs q ≡ Some 
 pub record IsStored (w : Past) (p : ℕ) (held : Content) : Type 0 where
   pub checkpoints : (x : ℕ) (bytes : List ℕ) → x ≤ length (history w p) → get held.checkpoints x ≡ Some bytes
       → (c : CheckpointRecord) × IsSpelled c bytes × (c.head.pid ≡ p) × (c.n ≡ length w.programs)
-      × AtInterval (history w p) x (CheckpointOf (program_at w.programs p) p (length w.programs) (process_of c))
-      × KeptWithin w p (process_of c).queues
+      × AtInterval (history w p) x (CheckpointOf (program_at w.programs p) p (length w.programs) (process_of_checkpoint c))
+      × KeptWithin w p (process_of_checkpoint c).queues
   pub receipts : (x : ℕ) (bytes : List ℕ) → 1 ≤ x → x ≤ length (history w p) → get held.receipts x ≡ Some bytes
       → (r : ReceiptRecord) × SpellsReceipt r bytes
       × AtInterval (history w p) x (RecordOf (program_at w.programs p) p (length w.programs) r)

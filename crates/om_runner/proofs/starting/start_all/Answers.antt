@@ -60,8 +60,8 @@ start_apart-requires-clause-program g c = λ lifetimes outlive.
     let image = c.index-image.result.now in
     let within : own < length images = search rules in
     let at : slice_get images own ≡ Some image = slice_get_read images (length images) own image refl within c.index-image.ensures in
-    let here : c.new-links.result.own ≡ own = c.new-links.ensures.own ∙ c.at.ensures in
-    subst (λ ps. slice_get ps c.new-links.result.own ≡ Some (program_of image)) (sym c.requires.named.run)
+    let here : c.new-links.result.ends.own ≡ own = c.new-links.ensures.own ∙ c.at.ensures in
+    subst (λ ps. slice_get ps c.new-links.result.ends.own ≡ Some (program_of image)) (sym c.requires.named.run)
     (subst (λ i. slice_get (map program_of images) i ≡ Some (program_of image)) (sym here) (map_get program_of images own image at))
 
 pub loop-one-preserved : goal.loop-one-preserved

@@ -1,5 +1,5 @@
 use Rattle.std.proofs.Common.{◌≡◌, map}
-use Rattle.om_requests.proofs.words.words_of.Given as goal
+use Rattle.om_requests.proofs.words.packet_words.Given as goal
 
 abbrev pub invariant-loop-word : goal.invariant-loop-word
 invariant-loop-word l = map (λ word. word.now) l.words.items ≡ map (λ word. word.now) l.yielded

@@ -1,7 +1,7 @@
 use Rattle.std.specs.Prelude.{map}
 use Rattle.om_process.specs.Images.{program_of}
 use Rattle.om_node.specs.Nodes.{AreAlwaysClean}
-use Rattle.om_runner.proofs.cluster.run_and_record.Given as goal
+use Rattle.om_runner.proofs.recorded.run_and_record.Given as goal
 
 abbrev pub ghosts-run_named : goal.ghosts-run_named
 ghosts-run_named g a = record {

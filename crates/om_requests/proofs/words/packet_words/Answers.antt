@@ -2,7 +2,7 @@ use Rattle.std.proofs.Common.{rules, ◌∙◌, tests}
 use Rattle.std.proofs.lemmas.Iterator.Consumers.{YieldsList-end}
 use Rattle.std.proofs.lemmas.Iterator.Splits.{YieldsList-from_slice_split}
 use Rattle.om_requests.specs.Requests.{is_mark}
-use Rattle.om_requests.proofs.words.words_of.Goals as goal
+use Rattle.om_requests.proofs.words.packet_words.Goals as goal
 
 pub returns : goal.returns
 returns c =
