@@ -1,4 +1,4 @@
-use Rattle.std.proofs.Common.{◌≡◌, ℕ, ◌^◌, ◌<◌, ◌≤◌, ◌⊎◌, ◌↔◌, inl, inr, refl, sym, ◌∙◌, ap, subst, arith, Bool, true, false, IsTrue, Option, None, Some, MatchOption, List, [], ◌∷◌, ◌++◌, length, slice_index, slice_index_or, max, min, Ok, Err, All, ◌+◌, take, slice_get, suc}
+use Rattle.std.proofs.Common.{◌≡◌, ℕ, ◌^◌, ◌<◌, ◌≤◌, ◌⊎◌, inl, inr, refl, sym, ◌∙◌, ap, subst, arith, Option, None, Some, List, [], ◌∷◌, ◌++◌, length, slice_index, Ok, Err, All, ◌+◌, take, slice_get, suc}
 use Rattle.std.proofs.Math.Seq.{take-suc}
 use Rattle.std.proofs.lemmas.Option.{get_or_from_slice_get, slice_get_within}
 use Rattle.std.proofs.lemmas.Bool.{cases_order}
@@ -16,10 +16,10 @@ use Rattle.om_recover.specs.declared.row.Row.{Row}
 use Rattle.om_recover.specs.declared.search.fresh.Fresh.{Fresh}
 use Rattle.om_recover.specs.declared.search.failed_climbs.FailedClimb.{FailedClimb}
 use Rattle.om_recover.specs.steps.Climbing.{IsSearchedByEither, from_high, from_low}
-use Rattle.om_recover.specs.steps.Fresh.{AreAdded, AreMoreOf, AreRaisable, HasNoneFresh, IsFresh, TellsFresh, fresh_with}
+use Rattle.om_recover.specs.steps.Fresh.{AreAdded, AreMoreOf, HasNoneFresh, IsFresh, TellsFresh, fresh_with}
 use Rattle.om_recover.specs.steps.Memory.{AreRemembered, IsWithout}
 use Rattle.om_recover.proofs.ClimbLemmas.{at_most_or_more}
-use Rattle.om_recover.proofs.MemoryLemmas.{AreAlike, all_alike, all_alike_within}
+use Rattle.om_recover.proofs.MemoryLemmas.{all_alike, all_alike_within}
 use Rattle.om_recover.proofs.MoreLemmas.{apart_where, greatest_with, more_by_none, more_by_one, more_then, stable_with, stable_without, within_or_started}
 use Rattle.om_recover.proofs.NewLemmas.{least_new, nothing_new_above}
 use Rattle.om_recover.proofs.NoteLemmas.{lawful_with_new, recoverable_with_new}

@@ -2,7 +2,7 @@ use Rattle.std.proofs.Common.{◌≡◌, ℕ, ◌+◌, ◌<◌, ◌≤◌, ◌�
 use Rattle.std.proofs.lemmas.Bool.{cases_order}
 use Rattle.std.specs.FinSet as set
 use Rattle.om_interval.specs.Vectors.{IsBelow}
-use Rattle.om_recover.specs.Rows.{Rows, HasRow, Has}
+use Rattle.om_recover.specs.Rows.{Rows}
 use Rattle.om_recover.specs.Recoverable.{IsStable, IsRecoverable, IsGreatest, maximum_of}
 use Rattle.om_recover.specs.steps.Fresh.{AreMoreOf, HasNoneFresh}
 use Rattle.om_recover.specs.declared.row.Row.{Row}

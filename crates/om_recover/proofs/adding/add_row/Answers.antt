@@ -1,4 +1,4 @@
-use Rattle.std.proofs.Common.{◌≡◌, ◌<◌, ◌≤◌, ◌^◌, Some, arith, false, length, refl, slice_index, subst, sym}
+use Rattle.std.proofs.Common.{◌<◌, ◌^◌, Some, arith, false, length, subst, sym}
 use Rattle.om_recover.specs.Offered.{IsNew}
 use Rattle.om_recover.specs.declared.note.Note.TheVariants.{Noted}
 use Rattle.om_recover.specs.steps.Fresh.{AreAdded}

@@ -1,10 +1,8 @@
-use Rattle.std.proofs.Common.{◌≡◌, ◌∙◌, refl, sym, subst, ap, arith, length, take, slice_get, Some, Err, Ok, List}
-use Rattle.std.proofs.Math.Seq.{take-length}
+use Rattle.std.proofs.Common.{◌≡◌, refl, sym, subst, arith, length, take, Err, Ok}
 use Rattle.std.specs.Prelude.{MatchResult}
 use Rattle.om_recover.specs.Rows.{Rows}
 use Rattle.om_recover.specs.Offered.{AreOffered, offered}
 use Rattle.om_recover.specs.steps.Fresh.{AreAdded}
-use Rattle.om_recover.specs.declared.row.Row.{Row}
 use Rattle.om_recover.specs.declared.note.Note.{Note}
 use Rattle.om_recover.proofs.FreshLemmas.{added_nothing, offered_next, process_at, refused_leaves}
 use Rattle.om_recover.proofs.adding.add_rows.Goals as goal

@@ -1,4 +1,4 @@
-use Rattle.std.proofs.Common.{◌≡◌, ◌≢◌, ◌↔◌, IsTrue, subst, length}
+use Rattle.std.proofs.Common.{◌≢◌, ◌↔◌, IsTrue, subst, length}
 use Rattle.om_interval.specs.Vectors.{IsBelow}
 use Rattle.om_recover.specs.Counted.{IsCountedAtOnce}
 use Rattle.om_recover.specs.Offered.{AreOfferedUpTo}

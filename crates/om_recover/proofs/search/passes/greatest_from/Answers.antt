@@ -1,4 +1,4 @@
-use Rattle.std.proofs.Common.{◌≡◌, ℕ, List, subst, sym, length}
+use Rattle.std.proofs.Common.{subst, sym}
 use Rattle.om_recover.specs.Rows.{IsLawful}
 use Rattle.om_recover.specs.Recoverable.{IsRecoverable, IsGreatest}
 use Rattle.om_recover.specs.steps.Memory.{AreRemembered}

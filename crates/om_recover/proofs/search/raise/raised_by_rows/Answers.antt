@@ -1,6 +1,6 @@
-use Rattle.std.proofs.Common.{◌≡◌, ◌<◌, arith, subst, length, slice_index, refl, Some}
+use Rattle.std.proofs.Common.{◌<◌, arith, subst, length, slice_index, refl}
 use Rattle.om_recover.specs.Counted.{no_search}
-use Rattle.om_recover.specs.steps.Fresh.{AreAdded, TellsFresh}
+use Rattle.om_recover.specs.steps.Fresh.{TellsFresh}
 use Rattle.om_recover.specs.steps.Memory.{IsWithout}
 use Rattle.om_recover.proofs.FreshLemmas.{counted_by_either, fresh_told, greatest_still, none_told, others_of_rows, process_of, remembered_up_to, remembered_with}
 use Rattle.om_recover.proofs.MemoryLemmas.{all_places}
