@@ -684,6 +684,9 @@ rows_stale m asked p rows (Err error) process stale of_one none why some =
 pub same_unless : (old new : List ℕ) (raised : Bool) → (IsTrue raised ↔ (old ≢ new)) → raised ≡ false → old ≡ new
 same_unless old new raised tells is = elim (same_or_apart old new) [ inl same ↦ same | inr apart ↦ absurd (true≢false (sym (tells.1 apart) ∙ is)) ]
   where
+    first_apart : (x y : ℕ) → (x < y) ⊎ (y < x) → x ≡ y → ⊥
+    first_apart x y apart is = elim apart [ inl less ↦ omega (arith, less, is) | inr more ↦ omega (arith, more, is) ]
+
     same_or_apart : (old new : List ℕ) → (old ≡ new) ⊎ (old ≢ new)
     same_or_apart [] [] = inl refl
     same_or_apart [] (y ∷ ys) = inr (λ is. cc)
@@ -695,6 +698,3 @@ same_unless old new raised tells is = elim (same_or_apart old new) [ inl same �
       ]
       | inr apart ↦ inr (λ is. absurd (first_apart x y apart (cc)))
     ]
-
-    first_apart : (x y : ℕ) → (x < y) ⊎ (y < x) → x ≡ y → ⊥
-    first_apart x y apart is = elim apart [ inl less ↦ omega (arith, less, is) | inr more ↦ omega (arith, more, is) ]

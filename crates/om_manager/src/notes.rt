@@ -115,11 +115,12 @@ impl Manager {
             return (0, self.stale_unless_empty(rows));
         }
         let noted = self.records.note_rows(alloc, pid, rows, &mut Work::new());
+        let end = as_refused(noted.end);
         if noted.raised {
             raise_all(&mut self.logs, &self.records.recovery());
             self.version += 1;
         }
-        (noted.count, as_refused(noted.end))
+        (noted.count, end)
     }
 
     // Refuses rows of another round than the manager's, where there are any.

@@ -1,4 +1,4 @@
-use Rattle.std.proofs.Common.{◌≡◌, ◌≢◌, ◌<◌, ◌+◌, subst, sym, refl, ◌∙◌, arith, length}
+use Rattle.std.proofs.Common.{◌≡◌, ◌<◌, ◌+◌, subst, sym, refl, ◌∙◌, arith}
 use Rattle.om_interval.specs.Vectors.{IsBelow}
 use Rattle.om_manager.proofs.ManagerLemmas.{room_for_version, parts_level, parts_raised, raised_keeps, whole, made_of, rows_level, rows_raised, rows_stale, same_unless}
 use Rattle.om_manager.specs.Notes.{NotesUpTo}
@@ -15,17 +15,18 @@ returns-then-is_stale-clause-sound g c = subst IsManager c.self.view_is (whole _
 pub returns-then-is_stale-clause-answer : goal.returns-then-is_stale-clause-answer
 returns-then-is_stale-clause-answer g c =
     let stale = c.is_stale.ensures.stale c.if-is_stale.true in
-    rows_stale _ _ _ _ c.stale_unless_empty.result stale.0 stale.1 c.requires c.stale_unless_empty.ensures.none c.stale_unless_empty.ensures.stale c.stale_unless_empty.ensures.some
+    rows_stale _ _ _ _ c.stale_unless_empty.result stale.0 stale.1 c.requires.of_one c.stale_unless_empty.ensures.none c.stale_unless_empty.ensures.stale c.stale_unless_empty.ensures.some
 
 pub returns-else-noted-clause-answer : goal.returns-else-noted-clause-answer
 returns-else-noted-clause-answer g c =
     let i = c.self.inside in
+    let old = made_of i.records i.logs.items i.starts i.round i.gathering i.last i.backs i.version in
     let new = made_of c.note_rows-noted.new.self i.logs.items i.starts i.round i.gathering i.last i.backs i.version in
     let current = subst (λ (m : ManagerState). c.args.pid < process_count m → c.args.round ≡ m.round) (sym c.self.view_is) (c.is_stale.ensures.current c.if-is_stale.false) in
     let level = same_unless _ _ _ c.note_rows-noted.ensures.raised c.if-noted.false in
-    subst (λ (m : ManagerState). NotesUpTo m c.args.round (g.L.RowList.rows c.args.rows.now) c.note_rows-noted.result.count c.as_refused.result new) c.self.view_is
-    (subst (λ e. NotesUpTo _ c.args.round (g.L.RowList.rows c.args.rows.now) c.note_rows-noted.result.count e new) (sym c.as_refused.ensures)
-    (rows_level _ _ _ _ _ _ _ _ _ _ _ _ _ _ current c.requires c.note_rows-noted.ensures.answer level))
+    subst (λ (m : ManagerState). NotesUpTo m c.args.round (g.L.RowList.rows c.args.rows.now) c.note_rows-noted.result.count c.as_refused-end.result new) c.self.view_is
+    (subst (λ e. NotesUpTo old c.args.round (g.L.RowList.rows c.args.rows.now) c.note_rows-noted.result.count e new) (sym c.as_refused-end.ensures)
+    (rows_level _ _ _ _ _ _ _ _ _ _ _ _ _ _ current c.requires.of_one c.note_rows-noted.ensures.answer level))
 
 pub invariant_of-self-else-noted : goal.invariant_of-self-else-noted
 invariant_of-self-else-noted g c = parts_level _ _ _ _ _ _ _ _ _ c.self.invariant c.note_rows-noted.ensures.sound (same_unless _ _ _ c.note_rows-noted.ensures.raised c.if-noted.false)
@@ -49,23 +50,24 @@ returns-else-noted-clause-released g c =
     let new = made_of c.note_rows-noted.new.self i.logs.items i.starts i.round i.gathering i.last i.backs i.version in
     subst (λ (m : ManagerState). KeepsReleased m new) c.self.view_is (raised_keeps _ new (whole _ _ _ _ _ _ _ _ c.self.invariant) refl c.note_rows-noted.ensures.not_lowered)
 
-pub invariant_of-self-then-noted : goal.invariant_of-self-then-noted
-invariant_of-self-then-noted g c =
+pub invariant_of-self : goal.invariant_of-self
+invariant_of-self g c =
     let raised = c.note_rows-noted.ensures.raised.0 c.if-noted.true in
     parts_raised _ _ _ _ _ _ _ _ _ _ c.self.invariant c.note_rows-noted.ensures.sound c.note_rows-noted.ensures.not_lowered raised c.raise_all.ensures.held (c.raise_all.ensures.limits ∙ c.recovery.ensures.state)
 
 pub returns-then-noted-clause-answer : goal.returns-then-noted-clause-answer
 returns-then-noted-clause-answer g c =
     let i = c.self.inside in
+    let old = made_of i.records i.logs.items i.starts i.round i.gathering i.last i.backs i.version in
     let new = made_of c.note_rows-noted.new.self c.raise_all.new.logs.items i.starts i.round i.gathering i.last i.backs (i.version + 1) in
     let current = subst (λ (m : ManagerState). c.args.pid < process_count m → c.args.round ≡ m.round) (sym c.self.view_is) (c.is_stale.ensures.current c.if-is_stale.false) in
     let raised = c.note_rows-noted.ensures.raised.0 c.if-noted.true in
-    subst (λ (m : ManagerState). NotesUpTo m c.args.round (g.L.RowList.rows c.args.rows.now) c.note_rows-noted.result.count c.as_refused.result new) c.self.view_is
-    (subst (λ e. NotesUpTo _ c.args.round (g.L.RowList.rows c.args.rows.now) c.note_rows-noted.result.count e new) (sym c.as_refused.ensures)
-    (rows_raised _ _ _ _ _ _ _ _ _ _ _ _ _ _ _ current c.requires c.note_rows-noted.ensures.answer raised c.note_rows-noted.ensures.not_lowered.same_places c.raise_all.ensures.held))
+    subst (λ (m : ManagerState). NotesUpTo m c.args.round (g.L.RowList.rows c.args.rows.now) c.note_rows-noted.result.count c.as_refused-end.result new) c.self.view_is
+    (subst (λ e. NotesUpTo old c.args.round (g.L.RowList.rows c.args.rows.now) c.note_rows-noted.result.count e new) (sym c.as_refused-end.ensures)
+    (rows_raised _ _ _ _ _ _ _ _ _ _ _ _ _ _ _ current c.requires.of_one c.note_rows-noted.ensures.answer raised c.note_rows-noted.ensures.not_lowered.same_places c.raise_all.ensures.held))
 
 pub returns-then-noted-clause-sound : goal.returns-then-noted-clause-sound
-returns-then-noted-clause-sound g c = whole _ _ _ _ _ _ _ _ (invariant_of-self-then-noted g c)
+returns-then-noted-clause-sound g c = whole _ _ _ _ _ _ _ _ (invariant_of-self g c)
 
 pub returns-then-noted-clause-front : goal.returns-then-noted-clause-front
 returns-then-noted-clause-front g c =
