@@ -1,7 +1,5 @@
-use Rattle.std.proofs.Common.{◌<◌, ◌≡◌, ◌∙◌, Some, ap, arith, length, refl, sym, slice_get}
-use Rattle.std.specs.Option.{option_map}
+use Rattle.std.proofs.Common.{arith}
 use Rattle.std.proofs.lemmas.List.{length-map}
-use Rattle.std.proofs.lemmas.Option.{slice_get-map, slice_get_read}
 use Rattle.om_member.specs.Told.{row_for}
 use Rattle.om_member.proofs.own_rows.OwnRowsRowList.row.Goals as goal
 
