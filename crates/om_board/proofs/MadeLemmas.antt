@@ -9,7 +9,7 @@ use Rattle.om_recover.specs.Rows.{Rows}
 use Rattle.om_recover.specs.declared.note.Note.{Note}
 use Rattle.om_recover.specs.declared.note.Note.TheVariants.{Known, Noted}
 use Rattle.om_recover.specs.declared.row.Row.{Row}
-use Rattle.om_manager.specs.Notes.{IsNext, Notes, NotesOutput, after_note, with_output}
+use Rattle.om_manager.specs.Notes.{IsNext, Notes, NotesOutput, NotesUpTo, after_note, with_output}
 use Rattle.om_manager.specs.steps.Offers.{Offer}
 use Rattle.om_manager.specs.Outputs.{HeldOutput}
 use Rattle.om_manager.specs.Rounds.{Fails, Failing, Finishes, Gathers, Joining}
@@ -63,6 +63,14 @@ noted_outputs (Err error) old new round row is = ap (λ (m : ManagerState). m.ou
 pub noted_made : (programs : List Program) (n : ℕ) (result : Result Note RecordError) (old new : ManagerState) (round : ℕ) (row : Row) → Notes old round row result new
     → HoldsMade programs n old → HoldsMade programs n new
 noted_made programs n result old new round row is = made_same programs n old new (noted_outputs result old new round row is)
+
+-- ---- rows are noted at once
+pub rows_outputs : (old new : ManagerState) (round count : ℕ) (rows : List Row) (end : Result (Unit {0}) RecordError) → NotesUpTo old round rows count end new → new.outputs ≡ old.outputs
+rows_outputs old new round count rows end is = ap (λ (m : ManagerState). m.outputs) is.others
+
+pub rows_made : (programs : List Program) (n : ℕ) (old new : ManagerState) (round count : ℕ) (rows : List Row) (end : Result (Unit {0}) RecordError) → NotesUpTo old round rows count end new
+    → HoldsMade programs n old → HoldsMade programs n new
+rows_made programs n old new round count rows end is = made_same programs n old new (rows_outputs old new round count rows end is)
 
 -- ---- an output is handed in
 with_made : (programs : List Program) (n : ℕ) (old : ManagerState) (p : ℕ) (output : HeldOutput) → p < length old.outputs → IsMade programs n p (length (held_by old p)) output

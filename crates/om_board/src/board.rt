@@ -1,6 +1,6 @@
 //! The manager on its board: each call that may change its front posts it.
 
-ghost use Rattle.std.specs.Prelude.{◌≡◌, ◌≢◌, ◌≤◌, ◌<◌, ◌↔◌, ℕ, [], ◌∷◌, length, replicate, slice_set, true, None, IsTrue, OnOk, OnErr};
+ghost use Rattle.std.specs.Prelude.{◌≡◌, ◌≢◌, ◌≤◌, ◌<◌, ◌↔◌, ℕ, [], ◌∷◌, All, length, replicate, slice_set, true, None, IsTrue, OnOk, OnErr};
 ghost use mathlib.Core.List.{IsPrefix};
 ghost use Rattle.om_interval.specs.Vectors.{IsBelow};
 ghost use Rattle.om_interval.specs.declared.pid.TheConstants.{MAX_PROCESSES};
@@ -8,7 +8,7 @@ ghost use Rattle.om_recover.specs.Records.{log_of, checkpoint_of};
 ghost use Rattle.om_recover.specs.Cutting.{IsPruned};
 ghost use Rattle.om_manager.specs.State.{process_count};
 ghost use Rattle.om_manager.specs.Sound.{KeepsReleased};
-ghost use Rattle.om_manager.specs.Notes.{Notes, NotesOutput};
+ghost use Rattle.om_manager.specs.Notes.{Notes, NotesOutput, NotesUpTo};
 ghost use Rattle.om_manager.specs.Rounds.{Failing, Joining};
 ghost use Rattle.om_board.specs.Fronts.{front_of, first_front, EndsWith, Follows};
 ghost use Rattle.om_board.specs.Made.{HoldsMade, IsMade};
@@ -20,7 +20,7 @@ use crate::frontier::{Frontier, Naming, Pass, Writer};
 use crate::waiting::{Waiting, all_wait, are_matched};
 use om_interval::{DepVec, MAX_PROCESSES, Pid};
 use om_manager::{FailError, Gathered, JoinError, Manager, OutputError, OutputNote, RecordError};
-use om_recover::{Note, Row, RowKind};
+use om_recover::{Note, Row, RowKind, RowList};
 use std::alloc::Global;
 use std::marker::Model;
 use std::sync::Wait;
@@ -174,6 +174,31 @@ impl<K: Naming> Board<K> {
         ensures refused { OnErr result (self.new ≡ self.old) }
     {
         let told = self.manager.note(alloc, round, row);
+        self.writer.post(rt, &Front::of(&self.manager), frontier);
+        told
+    }
+
+    /// Notes rows of a process, as [`Manager::note_rows`](om_manager::Manager::note_rows) does, and posts the front that comes of all of
+    /// them.
+    pub fn note_rows<L: RowList, R: Wait>(
+        &mut self,
+        rt: &R,
+        alloc: Global,
+        pid: Pid,
+        round: u32,
+        rows: &L,
+        frontier: &Frontier<K>,
+    ) -> (usize, Result<(), RecordError>)
+        requires of_one { All (λ row. row.pid ≡ pid) (L.rows rows.now) }
+        ensures answer { NotesUpTo self.old.manager round (L.rows rows.now) result.0 result.1 self.new.manager }
+        ensures posted { Follows self.old.posted (front_of self.new.manager) self.new.posted }
+        ensures sound { IsBoard K.cell.n self.new }
+        ensures not_lowered { IsBelow self.old.manager.recovery self.new.manager.recovery }
+        ensures released { KeepsReleased self.old.manager self.new.manager }
+        ensures quiet { self.new.quiet ≡ self.old.quiet }
+        ensures waiting { self.new.waiting ≡ self.old.waiting }
+    {
+        let told = self.manager.note_rows(alloc, pid, round, rows);
         self.writer.post(rt, &Front::of(&self.manager), frontier);
         told
     }

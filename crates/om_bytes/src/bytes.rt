@@ -9,15 +9,16 @@ ghost use Rattle.om_bytes.specs.steps.Kept.{AreKept, kept_bytes};
 
 use std::alloc::{AllocError, Global};
 use std::marker::Model;
+use std::sync::Arc;
 
 /// How many bytes stand in place at most.
 pub const IN_PLACE: usize = 14;
 
-// What is long stands behind a box, so that all take 16 bytes.
+// What is long stands behind a pointer, so that all take 16 bytes, and is shared by all copies.
 #[derive(Debug, Drop)]
 pub(crate) enum Kept {
     Short { count: u8, places: [u8; IN_PLACE] },
-    Long(Box<Vec<u8>>),
+    Long(Arc<Vec<u8>>),
 }
 
 /// Bytes, any number of them. Up to `IN_PLACE` take no memory of their own.
@@ -60,15 +61,23 @@ impl Bytes {
             });
         }
         let long = Vec::from_slice(alloc, bytes)?;
-        let kept = Kept::Long(Box::new(alloc, long)?);
+        let kept = Kept::Long(Arc::new(alloc, long)?);
         Ok(Bytes { kept })
     }
 
-    /// Copies the bytes into memory of their own. Refused only where memory ran out.
-    pub fn copy(&self, alloc: Global) -> Result<Bytes, AllocError>
+    /// Returns the same bytes once more. Those that do not stand in place are shared. Refused only where there are too many copies to
+    /// be counted.
+    pub fn copy(&self, _alloc: Global) -> Result<Bytes, AllocError>
         ensures { IfOk result (λ copy. copy ≡ self.now) }
     {
-        Bytes::from_slice(alloc, self.as_slice())
+        let kept = match &self.kept {
+            Kept::Short { count, places } => Kept::Short {
+                count: *count,
+                places: *places,
+            },
+            Kept::Long(long) => Kept::Long(Arc::try_clone(long)?),
+        };
+        Ok(Bytes { kept })
     }
 
     /// Returns the bytes as a slice.

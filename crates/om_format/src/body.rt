@@ -52,7 +52,7 @@ impl Body {
         self.bytes.as_slice()
     }
 
-    /// Copies the body into memory of its own. Refused only where memory ran out.
+    /// Copies the body. Long bytes are shared with the copy. Refused only where there are too many copies to be counted.
     pub fn copy(&self, alloc: Global) -> Result<Body, AllocError>
         ensures { IfOk result (λ copy. copy ≡ self.now) }
     {

@@ -19,7 +19,7 @@ pub struct Message {
 }
 
 impl Message {
-    /// Copies the message into memory of its own. Refused only where memory ran out.
+    /// Copies the message. Long bytes are shared with the copy. Refused only where there are too many copies to be counted.
     pub fn copy(&self, alloc: Global) -> Result<Message, AllocError>
         ensures { IfOk result (λ copy. copy ≡ self.now) }
     {

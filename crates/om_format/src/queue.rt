@@ -15,7 +15,7 @@ pub struct QueueEntry {
 }
 
 impl QueueEntry {
-    /// Copies the entry into memory of its own. Refused only where memory ran out.
+    /// Copies the entry. Long bytes are shared with the copy. Refused only where there are too many copies to be counted.
     pub fn copy(&self, alloc: Global) -> Result<QueueEntry, AllocError>
         ensures { IfOk result (λ copy. copy ≡ self.now) }
     {
@@ -36,7 +36,8 @@ pub struct Queue {
 }
 
 impl Queue {
-    /// Copies the queue into memory of its own. Refused only where memory ran out.
+    /// Copies the queue. Long bytes are shared with the copy. Refused only where memory ran out, or there are too many copies to be
+    /// counted.
     pub fn copy(&self, alloc: Global) -> Result<Queue, AllocError>
         ensures { IfOk result (λ copy. queue_record copy ≡ queue_record self.now) }
     {

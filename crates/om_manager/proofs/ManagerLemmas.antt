@@ -1,4 +1,5 @@
-use Rattle.std.proofs.Common.{◌≡◌, ◌≢◌, ℕ, ◌+◌, ◌-◌, ◌*◌, ◌^◌, ◌<◌, ◌≤◌, ◌⊎◌, inl, inr, refl, sym, ◌∙◌, ap, subst, arith, Bool, true, false, List, [], ◌∷◌, ◌++◌, length, map, All, get_or, sum, slice_index, slice_index_or, slice_set, replicate, Option, None, Some, zero, suc, nat_le, Result, Ok, Err, slice_get}
+use Rattle.std.proofs.Common.{◌≡◌, ◌≢◌, ℕ, ◌+◌, ◌-◌, ◌*◌, ◌^◌, ◌<◌, ◌≤◌, ◌⊎◌, inl, inr, refl, sym, ◌∙◌, ap, subst, arith, Bool, true, false, List, [], ◌∷◌, ◌++◌, length, map, All, get_or, sum, slice_index, slice_index_or, slice_set, replicate, Option, None, Some, zero, suc, nat_le, IsTrue, ◌↔◌, true≢false, Result, Ok, Err, slice_get, take}
+use Rattle.std.specs.Prelude.{OnOk, OnErr, IfErr}
 use Rattle.std.proofs.lemmas.List.Kept.{AllPairs-filter}
 use Rattle.std.proofs.lemmas.Bool.{cases_order}
 use Rattle.std.proofs.lemmas.List.{get_or_default, get_or_append_left, get_or_push, length_push, length-map, length-set, map-set, get_or-set_same, get_or-set_other, length-replicate, get_or-replicate, set-get_or, same_lists}
@@ -18,16 +19,18 @@ use mathlib.Core.List.{IsPrefix}
 use Rattle.std.specs.Option.{is_some}
 use Rattle.om_manager.specs.Rounds.{Finishes}
 use Rattle.om_manager.specs.steps.OutputLog.{LogState, log_with, log_within, IsUpTo, MayPush, Clashes, LogNotes}
-use Rattle.om_manager.specs.State.{ManagerState, held_by, released_by, open_count}
+use Rattle.om_manager.specs.State.{ManagerState, held_by, open_count, process_count, released_by}
 use Rattle.om_recover.specs.Rows.{Rows}
-use Rattle.om_recover.specs.Offered.{offered, TellsChange}
+use Rattle.om_recover.specs.Offered.{AreOffered, AreOfferedUpTo, offered, TellsChange}
+use Rattle.om_recover.proofs.FreshLemmas.{process_at}
 use Rattle.om_recover.specs.declared.row.Row.{Row}
 use Rattle.om_recover.specs.declared.note.Note.{Note}
 use Rattle.om_recover.specs.declared.note.Note.TheVariants.{Noted, Known}
 use Rattle.om_recover.specs.declared.note.NoteError.{NoteError}
 use Rattle.om_recover.specs.declared.note.NoteError.TheVariants as fault
-use Rattle.om_manager.specs.declared.answers.RecordError.TheVariants.{Refused}
-use Rattle.om_manager.specs.Notes.{Notes, after_note, IsCurrent, IsNext, IsDifferent, NotesOutput, with_output}
+use Rattle.om_manager.specs.declared.answers.RecordError.{RecordError}
+use Rattle.om_manager.specs.declared.answers.RecordError.TheVariants.{Refused, Stale}
+use Rattle.om_manager.specs.Notes.{Notes, NotesUpTo, after_note, IsCurrent, IsNext, IsDifferent, NotesOutput, refused_as, with_output}
 use Rattle.om_manager.specs.steps.Offers.{Offer}
 use Rattle.om_manager.specs.declared.answers.OutputNote.{OutputNote}
 use Rattle.om_manager.specs.declared.answers.OutputNote.TheVariants as kept
@@ -585,3 +588,113 @@ pushed_keeps logs p q limit log new output inside is pushed =
           (subst (λ (held : List HeldOutput). IsPrefix (within log.held limit) (within held limit)) (sym (get_or-set_same (map (λ (log : LogState). log.held) logs) p new.held [] (omega arith))) begins))
       | inr apart ↦ same_begins _ _ (ap (λ (held : List HeldOutput). within held limit) (sym (get_or-set_other (map (λ (log : LogState). log.held) logs) p q new.held [] (λ e. elim apart [ inl less ↦ omega arith | inr more ↦ omega arith ]))))
     ])
+
+-- of rows that were taken, where there are any, the first comes from a process of the cluster
+first_known : (n : ℕ) (rows : List Row) (count p : ℕ) (before after : Rows) → All (λ (row : Row). row.pid ≡ p) rows → 0 < count → count ≤ length rows → AreOffered n before (take count rows) after → p < n
+first_known n [] count p before after of_one some within told = absurd (omega (arith, some, within))
+first_known n (row ∷ rows) zero p before after of_one some within told = absurd (omega (arith, some))
+first_known n (row ∷ rows) (suc count) p before after of_one some within told =
+    let known : row.pid < n = taken_known n before told.1 row told.0 told.2 in
+    let is : row.pid ≡ p = of_one 0 row (omega arith) in
+    omega (arith, known, is)
+
+-- why rows are refused, as the manager says it
+refused_next : (m : ManagerState) (asked p count : ℕ) (rows : List Row) (end : Result (Unit {0}) NoteError) → (p < process_count m → asked ≡ m.round) → All (λ (row : Row). row.pid ≡ p) rows
+    → IfErr end (λ fault. (row : Row) × (slice_get rows count ≡ Some row) × offered (process_count m) m.rows row (Err fault) m.rows)
+    → IfErr (refused_as end) (λ why. (row : Row) × (slice_get rows count ≡ Some row) × Notes m asked row (Err why) m)
+refused_next m asked p count rows (Ok done) current of_one refused = tt
+refused_next m asked p count rows (Err fault) current of_one refused =
+    (refused.0, refused.1, (λ known. current (omega (arith, known, process_at rows p count refused.0 of_one refused.1)), refused.2, refl))
+
+all_as : (end : Result (Unit {0}) NoteError) (P : Type 0) → OnOk end P → OnOk (refused_as end) P
+all_as (Ok done) P holds = holds
+all_as (Err fault) P holds = tt
+
+-- the manager's answer to rows of a process, where the records' state stayed
+pub rows_level : (kept after : Kept) (logs : List LogState) (starts : List (List ℕ)) (round : ℕ) (gathering : Option (List Presence)) (last : List ℕ) (backs : List Bool) (version asked p count : ℕ) (rows : List Row) (end : Result (Unit {0}) NoteError)
+    → (p < length kept.state → asked ≡ round) → All (λ (row : Row). row.pid ≡ p) rows → AreOfferedUpTo (length kept.state) kept.rows rows count end after.rows → kept.state ≡ after.state
+    → NotesUpTo (made_of kept logs starts round gathering last backs version) asked rows count (refused_as end) (made_of after logs starts round gathering last backs version)
+rows_level kept after logs starts round gathering last backs version asked p count rows end current of_one told same =
+    let new = made_of after logs starts round gathering last backs version in
+    let refused : IfErr end (λ fault. (row : Row) × (slice_get rows count ≡ Some row) × offered (length after.state) after.rows row (Err fault) after.rows) =
+    subst (λ (s : List ℕ). IfErr end (λ fault. (row : Row) × (slice_get rows count ≡ Some row) × offered (length s) after.rows row (Err fault) after.rows)) same told.refused in
+    record {
+      within = told.within;
+      in_round = λ some. current (first_known (length kept.state) rows count p kept.rows after.rows of_one some told.within told.taken);
+      taken = told.taken;
+      all = all_as end (count ≡ length rows) told.all;
+      refused = refused_next new asked p count rows end (subst (λ (s : List ℕ). p < length s → asked ≡ round) same current) of_one refused;
+      level = λ _. refl;
+      raised = λ apart. absurd (apart same);
+      others = refl;
+    }
+
+-- and where it rose
+pub rows_raised : (kept after : Kept) (logs higher : List LogState) (starts : List (List ℕ)) (round : ℕ) (gathering : Option (List Presence)) (last : List ℕ) (backs : List Bool) (version asked p count : ℕ) (rows : List Row) (end : Result (Unit {0}) NoteError)
+    → (p < length kept.state → asked ≡ round) → All (λ (row : Row). row.pid ≡ p) rows → AreOfferedUpTo (length kept.state) kept.rows rows count end after.rows → kept.state ≢ after.state → length kept.state ≡ length after.state
+    → map (λ (log : LogState). log.held) higher ≡ map (λ (log : LogState). log.held) logs
+    → NotesUpTo (made_of kept logs starts round gathering last backs version) asked rows count (refused_as end) (made_of after higher starts round gathering last backs (version + 1))
+rows_raised kept after logs higher starts round gathering last backs version asked p count rows end current of_one told apart places held =
+    let made : List (List HeldOutput) → ManagerState = λ outputs. record { rows = after.rows; recovery = after.state; outputs = outputs; starts = starts; round = round; gathering = gathering; last = last; backs = backs; version = version + 1 } in
+    let new = made_of after higher starts round gathering last backs (version + 1) in
+    let refused : IfErr end (λ fault. (row : Row) × (slice_get rows count ≡ Some row) × offered (length after.state) after.rows row (Err fault) after.rows) =
+    subst (λ n. IfErr end (λ fault. (row : Row) × (slice_get rows count ≡ Some row) × offered n after.rows row (Err fault) after.rows)) places told.refused in
+    record {
+      within = told.within;
+      in_round = λ some. current (first_known (length kept.state) rows count p kept.rows after.rows of_one some told.within told.taken);
+      taken = told.taken;
+      all = all_as end (count ≡ length rows) told.all;
+      refused = refused_next new asked p count rows end (λ known. current (omega (arith, known, places))) of_one refused;
+      level = λ same. absurd (apart same);
+      raised = λ _. refl;
+      others = ap made held;
+    }
+
+-- rows of another round
+pub rows_stale : (m : ManagerState) (asked p : ℕ) (rows : List Row) (end : Result (Unit {0}) RecordError) → p < process_count m → asked ≢ m.round → All (λ (row : Row). row.pid ≡ p) rows
+    → OnOk end (rows ≡ []) → IfErr end (λ why. why ≡ Stale m.round) → OnErr end (0 < length rows) → NotesUpTo m asked rows 0 end m
+rows_stale m asked p rows (Ok done) process stale of_one none why some = record {
+  within = omega arith;
+  in_round = λ more. absurd (omega (arith, more));
+  taken = refl;
+  all = sym (ap length none);
+  refused = tt;
+  level = λ _. refl;
+  raised = λ apart. absurd (apart refl);
+  others = refl;
+}
+rows_stale m asked p rows (Err error) process stale of_one none why some =
+    let first = some_first rows some in
+    record {
+      within = omega arith;
+      in_round = λ more. absurd (omega (arith, more));
+      taken = refl;
+      all = tt;
+      refused = (first.0, first.1, subst (λ (e : RecordError). Notes m asked first.0 (Err e) m) (sym why) (omega (arith, process, process_at rows p 0 first.0 of_one first.1), stale, refl, refl));
+      level = λ _. refl;
+      raised = λ apart. absurd (apart refl);
+      others = refl;
+    }
+  where
+    some_first : (rows : List Row) → 0 < length rows → (row : Row) × (slice_get rows 0 ≡ Some row)
+    some_first [] some = absurd (omega (arith, some))
+    some_first (row ∷ rows) some = (row, refl)
+
+-- lists of numbers that are not apart are the same
+pub same_unless : (old new : List ℕ) (raised : Bool) → (IsTrue raised ↔ (old ≢ new)) → raised ≡ false → old ≡ new
+same_unless old new raised tells is = elim (same_or_apart old new) [ inl same ↦ same | inr apart ↦ absurd (true≢false (sym (tells.1 apart) ∙ is)) ]
+  where
+    first_apart : (x y : ℕ) → (x < y) ⊎ (y < x) → x ≡ y → ⊥
+    first_apart x y apart is = elim apart [ inl less ↦ omega (arith, less, is) | inr more ↦ omega (arith, more, is) ]
+
+    same_or_apart : (old new : List ℕ) → (old ≡ new) ⊎ (old ≢ new)
+    same_or_apart [] [] = inl refl
+    same_or_apart [] (y ∷ ys) = inr (λ is. cc)
+    same_or_apart (x ∷ xs) [] = inr (λ is. cc)
+    same_or_apart (x ∷ xs) (y ∷ ys) = elim (cases_order x y) [
+      | inl here ↦ elim (same_or_apart xs ys) [
+        | inl rest ↦ inl (cc)
+        | inr apart ↦ inr (λ is. absurd (apart (cc)))
+      ]
+      | inr apart ↦ inr (λ is. absurd (first_apart x y apart (cc)))
+    ]

@@ -1,9 +1,10 @@
-use Rattle.std.specs.Prelude.{◌≡◌, ◌≢◌, ℕ, ◌+◌, ◌<◌, ◌≤◌, List, [], ◌∷◌, ◌++◌, length, slice_get, slice_index, slice_set, true, false, Some, Result, Ok, Err, All}
+use Rattle.std.specs.Prelude.{◌≡◌, ◌≢◌, ℕ, ◌+◌, ◌<◌, ◌≤◌, List, [], ◌∷◌, ◌++◌, length, slice_get, slice_index, slice_set, take, true, false, Some, Result, Ok, Err, OnOk, IfErr, All}
 use Rattle.om_recover.specs.Rows.{Rows}
-use Rattle.om_recover.specs.Offered.{offered, TellsChange}
+use Rattle.om_recover.specs.Offered.{AreOffered, offered, TellsChange}
 use Rattle.om_recover.specs.declared.row.Row.{Row}
 use Rattle.om_recover.specs.declared.note.Note.{Note}
 use Rattle.om_recover.specs.declared.note.Note.TheVariants.{Noted, Known}
+use Rattle.om_recover.specs.declared.note.NoteError.{NoteError}
 use Rattle.om_manager.specs.Outputs.{HeldOutput}
 use Rattle.om_manager.specs.State.{ManagerState, process_count, held_by}
 use Rattle.om_manager.specs.declared.answers.RecordError.{RecordError}
@@ -27,6 +28,23 @@ Notes old round row (Ok note) new =
 Notes old round row (Err (Stale told)) new = (row.pid < process_count old) × (round ≢ old.round) × (told ≡ old.round) × (new ≡ old)
 Notes old round row (Err (Refused fault)) new =
     (row.pid < process_count old → round ≡ old.round) × offered (process_count old) old.rows row (Err fault) old.rows × (new ≡ old)
+
+-- the manager's answer to what the records say of rows
+abbrev pub refused_as : Result (Unit {0}) NoteError → Result (Unit {0}) RecordError
+refused_as (Ok done) = Ok done
+refused_as (Err fault) = Err (Refused fault)
+
+-- rows are offered in a round, in order, up to the first that is refused, and so many were not: the manager has those then, and where they
+-- raised the recovery state, that is one new version
+pub record NotesUpTo (old : ManagerState) (round : ℕ) (rows : List Row) (count : ℕ) (end : Result (Unit {0}) RecordError) (new : ManagerState) : Type 0 where
+  pub within : count ≤ length rows
+  pub in_round : 0 < count → round ≡ old.round
+  pub taken : AreOffered (process_count old) old.rows (take count rows) new.rows
+  pub all : OnOk end (count ≡ length rows)
+  pub refused : IfErr end (λ why. (row : Row) × (slice_get rows count ≡ Some row) × Notes new round row (Err why) new)
+  pub level : old.recovery ≡ new.recovery → new.version ≡ old.version
+  pub raised : old.recovery ≢ new.recovery → new.version ≡ old.version + 1
+  pub others : new ≡ record old { rows = new.rows; recovery = new.recovery; version = new.version }
 
 -- what is offered comes from a process of the cluster, in the manager's round
 pub record IsCurrent (m : ManagerState) (pid round : ℕ) : Type 0 where

@@ -1,17 +1,18 @@
 //! How the manager notes records and outputs.
 
-ghost use Rattle.std.specs.Prelude.{◌≡◌, ◌≢◌, ◌<◌, map, false, IsTrue};
+ghost use Rattle.std.specs.Prelude.{◌≡◌, ◌≢◌, ◌<◌, [], All, IfErr, OnErr, OnOk, length, map, false, IsTrue};
 ghost use Rattle.om_interval.specs.Vectors.{IsBelow};
 ghost use Rattle.om_recover.specs.Records.{log_of, checkpoint_of};
 ghost use Rattle.om_manager.specs.State.{process_count};
 ghost use Rattle.om_manager.specs.Sound.{IsManager, GoesOn, KeepsReleased};
-ghost use Rattle.om_manager.specs.Notes.{Notes, NotesOutput};
+ghost use Rattle.om_manager.specs.Notes.{Notes, NotesOutput, NotesUpTo, refused_as};
+ghost use Rattle.om_manager.specs.declared.answers.RecordError.TheVariants.{Stale};
 
 use crate::answers::{OutputError, OutputNote, RecordError};
 use crate::manager::Manager;
 use crate::output_log::OutputLog;
 use om_interval::{DepVec, Pid};
-use om_recover::{Note, Row, RowKind, Work};
+use om_recover::{Note, NoteError, Row, RowKind, RowList, Work};
 use std::alloc::Global;
 
 impl Manager {
@@ -93,6 +94,48 @@ impl Manager {
         Ok(note)
     }
 
+    /// Notes rows of a process in order, up to the first that is refused, with one search for all of them, and says how many were not.
+    /// The rows and the recovery state are then what noting them one by one leaves; a state that is raised is one new version. The
+    /// refusals are those of [`Manager::note_logged`], in the same order.
+    pub fn note_rows<L: RowList>(
+        &mut self,
+        alloc: Global,
+        pid: Pid,
+        round: u32,
+        rows: &L,
+    ) -> (usize, Result<(), RecordError>)
+        requires of_one { All (λ row. row.pid ≡ pid) (L.rows rows.now) }
+        ensures answer { NotesUpTo self.old round (L.rows rows.now) result.0 result.1 self.new }
+        ensures sound { IsManager self.new }
+        ensures front { GoesOn self.old self.new }
+        ensures not_lowered { IsBelow self.old.recovery self.new.recovery }
+        ensures released { KeepsReleased self.old self.new }
+    {
+        if self.is_stale(pid, round) {
+            return (0, self.stale_unless_empty(rows));
+        }
+        let noted = self.records.note_rows(alloc, pid, rows, &mut Work::new());
+        let end = as_refused(noted.end);
+        if noted.raised {
+            raise_all(&mut self.logs, &self.records.recovery());
+            self.version += 1;
+        }
+        (noted.count, end)
+    }
+
+    // Refuses rows of another round than the manager's, where there are any.
+    fn stale_unless_empty<L: RowList>(&self, rows: &L) -> Result<(), RecordError>
+        ensures none { OnOk result (L.rows rows.now ≡ []) }
+        ensures stale { IfErr result (λ why. why ≡ Stale self.now.round) }
+        ensures some { OnErr result (0 < length (L.rows rows.now)) }
+    {
+        if rows.len() == 0 {
+            Ok(())
+        } else {
+            Err(RecordError::Stale { round: self.round })
+        }
+    }
+
     // Returns whether what a process of the cluster tells comes in another round than the manager's.
     fn is_stale(&self, pid: Pid, round: u32) -> bool
         ensures stale { IsTrue result → (pid < process_count self.now) × (round ≢ self.now.round) }
@@ -130,6 +173,15 @@ impl Manager {
         }
         let log = &mut self.logs[pid.index()];
         log.note(alloc, seq, x, bytes)
+    }
+}
+
+fn as_refused(end: Result<(), NoteError>) -> Result<(), RecordError>
+    ensures { result ≡ refused_as end }
+{
+    match end {
+        Ok(()) => Ok(()),
+        Err(fault) => Err(RecordError::Refused(fault)),
     }
 }
 

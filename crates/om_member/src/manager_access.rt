@@ -8,7 +8,9 @@ ghost use Rattle.om_manager.specs.State.{ManagerState};
 ghost use Rattle.om_manager.specs.Sound.{IsManager, KeepsReleased};
 ghost use Rattle.om_manager.specs.Notes.{Notes, NotesOutput};
 ghost use Rattle.om_manager.specs.Rounds.{Failing, Joining};
+ghost use Rattle.om_member.specs.Told.{IsToldAtOnce};
 
+use crate::own_rows::OwnRows;
 use om_interval::Pid;
 use om_manager::{FailError, Gathered, JoinError, Manager, OutputError, OutputNote, RecordError};
 use om_recover::{Note, Row};
@@ -30,6 +32,18 @@ pub trait ManagerAccess {
     /// Notes a row, as [`Manager::note`](om_manager::Manager::note) does.
     fn note(&mut self, alloc: Global, round: u32, row: Row) -> Result<Note, RecordError>
         ensures answer { Notes (state self.old) round row result (state self.new) }
+        ensures sound { IsManager (state self.new) }
+        ensures not_lowered { IsBelow (state self.old).recovery (state self.new).recovery }
+        ensures released { KeepsReleased (state self.old) (state self.new) };
+
+    /// Notes rows of a process, as [`Manager::note_rows`](om_manager::Manager::note_rows) does.
+    fn note_rows(
+        &mut self,
+        alloc: Global,
+        round: u32,
+        rows: &OwnRows<'_>,
+    ) -> (usize, Result<(), RecordError>)
+        ensures answer { IsToldAtOnce (state self.old) round rows.now.pid rows.now.rows.now result.0 result.1 (state self.new) }
         ensures sound { IsManager (state self.new) }
         ensures not_lowered { IsBelow (state self.old).recovery (state self.new).recovery }
         ensures released { KeepsReleased (state self.old) (state self.new) };
@@ -90,6 +104,15 @@ impl ManagerAccess for Manager {
 
     fn note(&mut self, alloc: Global, round: u32, row: Row) -> Result<Note, RecordError> {
         self.note(alloc, round, row)
+    }
+
+    fn note_rows(
+        &mut self,
+        alloc: Global,
+        round: u32,
+        rows: &OwnRows<'_>,
+    ) -> (usize, Result<(), RecordError>) {
+        self.note_rows(alloc, rows.pid, round, rows)
     }
 
     fn note_output(

@@ -3,31 +3,15 @@
 ghost use Rattle.std.specs.Prelude.{◌≡◌, drop};
 ghost use Rattle.om_process.specs.Core.{with_pending};
 ghost use Rattle.om_member.specs.Keeps.{Keeps};
-ghost use Rattle.om_member.specs.Told.{IsTold, IsToldUpTo, row_for};
+ghost use Rattle.om_member.specs.Told.{IsTold, IsToldAtOnce, IsToldUpTo};
 
 use crate::manager_access::ManagerAccess;
+use crate::own_rows::{OwnRows, row_of};
 use om_interval::Pid;
 use om_manager::RecordError;
 use om_process::{PendingRow, ProcCore};
-use om_recover::{Note, Row, RowKind};
+use om_recover::Note;
 use std::alloc::Global;
-
-// Returns a pending row of a process, as the manager is told it.
-fn row_of(pid: Pid, row: &PendingRow) -> Row
-    ensures { result ≡ row_for pid row.now }
-{
-    Row {
-        kind: if row.ckpt {
-            RowKind::Checkpoint
-        } else {
-            RowKind::Log
-        },
-        pid,
-        interval: row.x,
-        vec: row.vec,
-        got: row.got,
-    }
-}
 
 // Offers a row to the manager.
 fn tell<O: ManagerAccess>(
@@ -75,6 +59,24 @@ pub fn note<O: ManagerAccess>(
     // The look tells what holds of every manager.
     let _ = access.manager();
     let (count, end) = tell_all(access, alloc, pid, core.round(), core.pending());
+    core.noted(count);
+    (count, end)
+}
+
+/// Offers the pending rows of a process to the manager at once, in order, up to the first that is refused. Says how many were not
+/// refused; those are pending no longer.
+pub fn note_at_once<O: ManagerAccess>(
+    core: &mut ProcCore,
+    access: &mut O,
+    alloc: Global,
+    pid: Pid,
+) -> (usize, Result<(), RecordError>)
+    ensures told { IsToldAtOnce (O.state access.old) core.old.round pid core.old.pending result.0 result.1 (O.state access.new) }
+    ensures keeps { Keeps (O.state access.old) (O.state access.new) }
+    ensures core { core.new ≡ with_pending core.old (drop result.0 core.old.pending) }
+{
+    let rows = core.pending();
+    let (count, end) = access.note_rows(alloc, core.round(), &OwnRows { pid, rows });
     core.noted(count);
     (count, end)
 }

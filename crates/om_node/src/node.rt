@@ -4,7 +4,7 @@ ghost use Rattle.std.specs.Prelude.{◌≡◌, ◌≢◌, ◌<◌, ◌+◌, ◌�
 ghost use Rattle.om_manager.specs.State.{held_by, process_count};
 ghost use Rattle.om_member.specs.Handed.{AreHandedUpTo, outputs_from};
 ghost use Rattle.om_member.specs.Keeps.{Keeps};
-ghost use Rattle.om_member.specs.Told.{IsToldUpTo};
+ghost use Rattle.om_member.specs.Told.{IsToldAtOnce};
 ghost use Rattle.om_format.specs.Queues.{queue_end};
 ghost use Rattle.om_process.specs.Accepts.{Answers, taken};
 ghost use Rattle.om_process.specs.Core.{IsEnd, RunsTo, cluster_size, move_of, settled, status_of, with_now, with_pending};
@@ -190,21 +190,21 @@ impl<'a, J: Series, S: Stable> Node<'a, J, S> {
         Ok(self.core.flush(alloc, &mut **store)?)
     }
 
-    /// Offers the pending rows to the manager, up to the first that is refused, and says how many were not: those are pending no
-    /// longer.
+    /// Offers the pending rows to the manager at once, up to the first that is refused, and says how many were not: those are pending
+    /// no longer.
     pub fn note<O: ManagerAccess>(
         &mut self,
         access: &mut O,
         alloc: Global,
     ) -> (usize, Result<(), RecordError>)
-        ensures told { IsToldUpTo (O.state access.old) self.old.core.round self.old.member.own self.old.core.pending
+        ensures told { IsToldAtOnce (O.state access.old) self.old.core.round self.old.member.own self.old.core.pending
             result.0 result.1 (O.state access.new) }
         ensures keeps { Keeps (O.state access.old) (O.state access.new) }
         ensures core { self.new.core ≡ with_pending self.old.core (drop result.0 self.old.core.pending) }
         ensures member { self.new.member ≡ self.old.member }
         ensures away { self.new.away ≡ self.old.away }
     {
-        om_member::note(&mut self.core, access, alloc, self.pid)
+        om_member::note_at_once(&mut self.core, access, alloc, self.pid)
     }
 
     /// Hands in the outputs that the manager has not, up to the first that is refused.

@@ -24,6 +24,8 @@ pub mod BaseStepLemmas
 pub mod OfferLemmas
 pub mod NewLemmas
 pub mod ClimbLemmas
+pub mod MoreLemmas
 pub mod SearchLemmas
 pub mod MemoryLemmas
 pub mod NotedLemmas
+pub mod FreshLemmas

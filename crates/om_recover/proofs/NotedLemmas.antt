@@ -15,10 +15,10 @@ use Rattle.om_recover.proofs.SearchLemmas.{below_or_started, greatest_stays}
 use Rattle.om_recover.proofs.NewLemmas.{nothing_new_above, least_new}
 
 -- the lemmas of a note, of rows that are those before with one more
-pub stays_greatest : (n : ℕ) (before after : Rows) (row : Row) (state : List ℕ) → after ≡ set.insert before row → IsGreatest n before state → IsRecoverable n after state → row.pid < n
+pub stays_greatest : (n : ℕ) (before after : Rows) (row : Row) (state : List ℕ) → after ≡ set.insert before row → IsGreatest n before state → IsRecoverable n after state
     → ((y : ℕ) → IsStable after row.pid y → slice_index state row.pid < y → IsStable before row.pid y) → IsGreatest n after state
 stays_greatest n before after row state added greatest =
-    subst (λ (rows : Rows). IsRecoverable n rows state → row.pid < n → ((y : ℕ) → IsStable rows row.pid y → slice_index state row.pid < y → IsStable before row.pid y) → IsGreatest n rows state) (sym added)
+    subst (λ (rows : Rows). IsRecoverable n rows state → ((y : ℕ) → IsStable rows row.pid y → slice_index state row.pid < y → IsStable before row.pid y) → IsGreatest n rows state) (sym added)
     (greatest_stays n before row state greatest)
 
 pub nothing_above : (before after : Rows) (row : Row) (floor : ℕ) → after ≡ set.insert before row → IsStable before row.pid floor → row.interval ≤ floor → (y : ℕ) → IsStable after row.pid y → floor < y → IsStable before row.pid y
@@ -30,9 +30,9 @@ least_of_note before after row floor added above new =
     subst (λ (rows : Rows). IsStable rows row.pid row.interval → IsLeastNew before rows row.pid floor row.interval) (sym added) (least_new before row floor above new)
 
 pub others_of_note : (n : ℕ) (before after : Rows) (row : Row) (state : List ℕ) (x : ℕ) → after ≡ set.insert before row → IsGreatest n before state → IsRecoverable n after state → IsLeastNew before after row.pid (slice_index state row.pid) x
-    → row.pid < n → (other : List ℕ) → IsRecoverable n after other → IsBelow other state ⊎ (x ≤ slice_index other row.pid)
+    → (other : List ℕ) → IsRecoverable n after other → IsBelow other state ⊎ (x ≤ slice_index other row.pid)
 others_of_note n before after row state x added greatest =
-    subst (λ (rows : Rows). IsRecoverable n rows state → IsLeastNew before rows row.pid (slice_index state row.pid) x → row.pid < n → (other : List ℕ) → IsRecoverable n rows other → IsBelow other state ⊎ (x ≤ slice_index other row.pid)) (sym added)
+    subst (λ (rows : Rows). IsRecoverable n rows state → IsLeastNew before rows row.pid (slice_index state row.pid) x → (other : List ℕ) → IsRecoverable n rows other → IsBelow other state ⊎ (x ≤ slice_index other row.pid)) (sym added)
     (below_or_started n before row state x greatest)
 
 -- where a row made nothing stable, what is stable was so before
@@ -48,7 +48,7 @@ quiet_above n before after row state is_new all at_most = nothing_above before a
 -- the state stays the greatest where nothing becomes stable above it
 pub stays : (n : ℕ) (before after : Rows) (row : Row) (state : List ℕ) (is_new : Bool) → IsAdded n before after row state is_new
     → ((y : ℕ) → IsStable after row.pid y → slice_index state row.pid < y → IsStable before row.pid y) → IsGreatest n after state
-stays n before after row state is_new all nothing = stays_greatest n before after row state all.added all.greatest all.still all.process nothing
+stays n before after row state is_new all nothing = stays_greatest n before after row state all.added all.greatest all.still nothing
 
 -- else the row's interval is the least that became stable above it
 pub least : (n : ℕ) (before after : Rows) (row : Row) (state : List ℕ) (is_new : Bool) → IsAdded n before after row state is_new → is_new ≡ true
@@ -62,7 +62,7 @@ pub same_unless_raised : (n : ℕ) (before after : Rows) (row : Row) (state rais
     → slice_index raised row.pid ≤ slice_index state row.pid → state ≡ raised
 same_unless_raised n before after row state raised true all greatest at_most = elim (at_most_or_more row.interval (slice_index state row.pid)) [
   | inl low ↦ unique_greatest n after state raised (stays n before after row state true all (quiet_above n before after row state true all low)) greatest
-  | inr above ↦ elim (others_of_note n before after row state row.interval all.added all.greatest all.still (least n before after row state true all refl above) all.process raised greatest.recoverable) [
+  | inr above ↦ elim (others_of_note n before after row state row.interval all.added all.greatest all.still (least n before after row state true all refl above) raised greatest.recoverable) [
     | inl within ↦ below_each_other state raised (greatest.above_all state all.still) within
     | inr started ↦ absurd (omega (arith, started, above, at_most))
   ]

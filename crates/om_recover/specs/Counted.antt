@@ -56,6 +56,29 @@ pub data IsCounted (n : ℕ) (before after : Rows) (p : ℕ) (state raised : Lis
   searched : (x : ℕ) → IsLeastNew before after p (slice_index state p) x → IsSearched n after state p x raised old new
       → IsCounted n before after p state raised old new
 
+-- an interval of the process above the floor that was not stable before
+pub record IsNewAbove (before after : Rows) (p floor x : ℕ) : Type 0 where
+  pub stable : IsStable after p x
+  pub new : IsStable before p x → ⊥
+  pub above : floor < x
+
+-- the attempts of a note of several rows of a process: none where no interval of it becomes stable above the state, else those of a search
+-- from one that does; or, where no recoverable state has the process there, an attempt at it and those of a search from the least that does
+pub data IsCountedAtOnce (n : ℕ) (before after : Rows) (p : ℕ) (state raised : List ℕ) (old new : List Attempt) : Type 0 where
+  no_search : ((y : ℕ) → IsStable after p y → slice_index state p < y → IsStable before p y) → new ≡ old
+      → IsCountedAtOnce n before after p state raised old new
+  one_search : (x : ℕ) → IsNewAbove before after p (slice_index state p) x → IsSearched n after state p x raised old new
+      → IsCountedAtOnce n before after p state raised old new
+  second_search : (high x : ℕ) (looks : List (ℕ × ℕ)) → IsNewAbove before after p (slice_index state p) high
+      → AreLooks after state p high looks → ((other : List ℕ) → IsRecoverable n after other → slice_index other p < high)
+      → IsLeastNew before after p (slice_index state p) x
+      → IsSearched n after state p x raised (record { pid = p; interval = high; state = state; looks = looks } ∷ old) new
+      → IsCountedAtOnce n before after p state raised old new
+
 -- the attempts of a note of a process, from the records before it and after
 abbrev pub IsCountedNote : Kept → Kept → ℕ → List Attempt → List Attempt → Type 0
 IsCountedNote before after p old new = IsCounted (length before.state) before.rows after.rows p before.state after.state old new
+
+-- the attempts of a note of several rows of a process
+abbrev pub AreCountedNotes : Kept → Kept → ℕ → List Attempt → List Attempt → Type 0
+AreCountedNotes before after p old new = IsCountedAtOnce (length before.state) before.rows after.rows p before.state after.state old new

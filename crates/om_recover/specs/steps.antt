@@ -12,3 +12,4 @@ pub mod Held
 pub mod Flat
 pub mod Logs
 pub mod Bases
+pub mod Fresh

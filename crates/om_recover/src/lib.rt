@@ -6,24 +6,28 @@
 //!
 //! In an order of reading:
 //!
-//! - what is noted: `row`, `note` (the answers), `records` (the calls), `laws` (theorems over the definitions)
+//! - what is noted: `row`, `row_list`, `note` (the answers), `records` (the calls), `adding` (rows that are noted at once), `laws`
+//!   (theorems over the definitions)
 //! - the search: `search`, over rows that it is lent as a `Shelf` (`shelf`); `work` and `step` (what is counted); `numbers`
 //!   (numbers by process, read where they lie)
 //! - the rows: `rows`, whose index is a `Shelf`
 #![tactic(auto)]
 
+mod adding;
 pub mod laws;
 mod note;
 mod numbers;
 mod records;
 mod row;
+mod row_list;
 mod rows;
 mod search;
 mod shelf;
 mod step;
 mod work;
 
-pub use note::{Note, NoteError};
+pub use note::{Note, NoteError, NotedRows};
 pub use records::Records;
 pub use row::{Row, RowKind};
+pub use row_list::RowList;
 pub use work::Work;

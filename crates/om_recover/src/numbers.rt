@@ -18,6 +18,19 @@ pub fn is_below(low: &[u32], high: &DepVec) -> bool
     ensures { IsTrue result ↔ IsBelow low.now high.now }
 {
     let numbers = high.as_slice();
-    let mut pairs = low.iter().zip(numbers);
-    low.len() == numbers.len() && pairs.all(|(low, high)| *low <= *high)
+    low.len() == numbers.len() && are_at_most(low, numbers)
+}
+
+// Returns whether each number is at most the other. All are compared: to stop at the first that is not takes longer.
+fn are_at_most(low: &[u32], high: &[u32]) -> bool
+    requires { length low.now ≡ length high.now }
+    ensures { IsTrue result ↔ IsBelow low.now high.now }
+{
+    let mut is_above = false;
+    for place in 0..low.len() {
+        if high[place] < low[place] {
+            is_above = true;
+        }
+    }
+    !is_above
 }

@@ -1,19 +1,21 @@
 //! The records of a cluster, and its recovery state.
 
-ghost use Rattle.std.specs.Prelude.{◌≡◌, ℕ, ◌+◌, ◌<◌, ◌≤◌, ◌↔◌, length, replicate, slice_index, IfOk, IsTrue};
+ghost use Rattle.std.specs.Prelude.{◌≡◌, ◌≢◌, ℕ, ◌+◌, ◌<◌, ◌≤◌, ◌↔◌, All, length, replicate, slice_index, IfOk, IsTrue};
 ghost use Rattle.om_interval.specs.Vectors.{IsBelow};
 ghost use Rattle.om_interval.specs.declared.pid.TheConstants.{MAX_PROCESSES};
 ghost use Rattle.om_recover.specs.Cutting.{IsEffective, IsGotAt, IsGotFrom, IsPruned, cut_to};
 ghost use Rattle.om_recover.specs.Rows.{HasRow};
-ghost use Rattle.om_recover.specs.Offered.{offered, TellsChange};
-ghost use Rattle.om_recover.specs.Counted.{IsCountedNote};
+ghost use Rattle.om_recover.specs.Offered.{AreOfferedUpTo, offered, TellsChange};
+ghost use Rattle.om_recover.specs.Counted.{AreCountedNotes, IsCountedNote};
 ghost use Rattle.om_recover.specs.Records.{first_row, log_of, checkpoint_of, IsSound};
 
-use crate::note::{Note, NoteError};
+use crate::adding::add_rows;
+use crate::note::{Note, NoteError, NotedRows};
 use crate::row::{Row, RowKind};
+use crate::row_list::RowList;
 use crate::rows::index::Index;
 use crate::search::failed_climbs::FailedClimbs;
-use crate::search::raise::raised_by;
+use crate::search::raise::{raised_by, raised_by_rows};
 use crate::work::Work;
 use om_interval::{DepVec, Pid};
 use std::alloc::{AllocError, Global};
@@ -153,6 +155,41 @@ impl Records {
         Ok(Note::Noted { raised })
     }
 
+    /// Notes rows of a process in order, up to the first that is refused, with one search for all of them. The rows and the recovery
+    /// state are then what noting them one by one leaves; which of them raised it is not told. The refusals are those of
+    /// [`Records::note_logged`], in the same order.
+    pub fn note_rows<L: RowList>(
+        &mut self,
+        _alloc: Global,
+        pid: Pid,
+        rows: &L,
+        work: &mut Work,
+    ) -> NotedRows
+        requires of_one { All (λ row. row.pid ≡ pid) (L.rows rows.now) }
+        ensures answer { AreOfferedUpTo (length self.old.state) self.old.rows (L.rows rows.now) result.count result.end self.new.rows }
+        ensures raised { IsTrue result.raised ↔ (self.old.state ≢ self.new.state) }
+        ensures sound { IsSound self.new }
+        ensures not_lowered { IsBelow self.old.state self.new.state }
+        ensures counted { AreCountedNotes self.old self.new pid work.old.attempts work.new.attempts }
+    {
+        let added = add_rows(&mut self.index, &self.state, pid, rows);
+        let state = raised_by_rows(
+            &self.index,
+            pid,
+            &self.state,
+            added.fresh,
+            &mut self.memories,
+            work,
+        );
+        let raised = is_other(&state, &self.state);
+        self.state = state;
+        NotedRows {
+            count: added.count,
+            end: added.end,
+            raised,
+        }
+    }
+
     /// Returns the recovery state: the greatest recoverable state of the records.
     pub fn recovery(&self) -> DepVec
         ensures state { result ≡ self.now.state }
@@ -205,6 +242,12 @@ impl Records {
     {
         self.index.prune(&self.state);
     }
+}
+
+fn is_other(one: &DepVec, other: &DepVec) -> bool
+    ensures { IsTrue result ↔ (other.now ≢ one.now) }
+{
+    one != other
 }
 
 // Returns whether a process stands higher in one state than in another.

@@ -3,6 +3,7 @@ use Rattle.std.proofs.Common.{◌≡◌, ◌↔◌, ℕ, List, Option, None, Som
 use Rattle.std.specs.Prelude.{Any, IfNone, OnOk, Result, slice_get}
 use Rattle.std.proofs.lemmas.Option.{same_Some}
 use Rattle.std.proofs.Math.Seq.{drop-length, take-length}
+use Rattle.std.proofs.lemmas.List.{length-map}
 use Rattle.om_process.specs.Core.{CoreState, with_pending}
 use Rattle.om_process.specs.Process.{Program}
 use Rattle.om_process.specs.declared.row.PendingRow.{PendingRow}
@@ -13,7 +14,7 @@ use Rattle.om_manager.specs.declared.answers.Gathered.{Gathered}
 use Rattle.om_manager.specs.State.{ManagerState, held_by}
 use Rattle.om_member.specs.Handed.{AreHanded, AreHandedUpTo, outputs_from}
 use Rattle.om_member.specs.Keeps.{Keeps}
-use Rattle.om_member.specs.Told.{AreTold, IsToldUpTo}
+use Rattle.om_member.specs.Told.{IsToldAtOnce, row_for}
 use Rattle.om_member.proofs.KeepLemmas.{keeps_then}
 use Rattle.om_worker_parts.specs.Acts.{HasHandedOver}
 use Rattle.om_node.specs.Nodes.{AreAlwaysClean, Member, TakesFrom}
@@ -25,16 +26,17 @@ on_any (Ok x) p = p
 on_any (Err e) p = tt
 
 -- all that was offered was taken
-pub handed_over : (before mid after : ManagerState) (p q count : ℕ) (old new : CoreState) → q ≡ p → IsToldUpTo before old.round p old.pending count (Ok tt) mid → Keeps before mid
+pub handed_over : (before mid after : ManagerState) (p q count : ℕ) (old new : CoreState) → q ≡ p → IsToldAtOnce before old.round p old.pending count (Ok tt) mid → Keeps before mid
     → new ≡ with_pending old (drop count old.pending) → AreHandedUpTo mid new.round q (outputs_from new (length (held_by mid q))) (Ok tt) after → Keeps mid after → HasHandedOver before p old after new
 handed_over before mid after p q count old new is_p told k same handing l =
     let handed = subst (λ (x : ℕ). AreHandedUpTo mid new.round x (outputs_from new (length (held_by mid x))) (Ok tt) after) is_p handing in
     let made = outputs_from new (length (held_by mid p)) in
+    let all : count ≡ length old.pending = told.all ∙ length-map old.pending (row_for p) in
     record {
       told_all = mid;
-      told = subst (λ rows. AreTold before old.round p rows mid) (ap (λ n. take n old.pending) told.all ∙ take-length old.pending) told.done;
+      told = subst (λ k. IsToldAtOnce before old.round p old.pending k (Ok tt) mid) all told;
       handed = subst (λ ms. AreHanded mid new.round p ms after) (ap (λ n. take n made) handed.1.all ∙ take-length made) handed.1.done;
-      none_left = same ∙ ap (λ rows. with_pending old rows) (ap (λ n. drop n old.pending) told.all ∙ drop-length old.pending);
+      none_left = same ∙ ap (λ rows. with_pending old rows) (ap (λ n. drop n old.pending) all ∙ drop-length old.pending);
       keeps = keeps_then before mid after k l;
     }
 

@@ -12,16 +12,16 @@ use Rattle.om_board.specs.Boards.{AreAllQuiet, BoardState, DoAllWait, MayRest, M
 use Rattle.om_board.specs.declared.waiting.Waiting.TheVariants.{Offers, Waits}
 use Rattle.om_member.specs.Handed.{AreHanded, outputs_from}
 use Rattle.om_member.specs.Keeps.{Keeps}
-use Rattle.om_member.specs.Told.{AreTold}
+use Rattle.om_member.specs.Told.{AreToldAtOnce}
 use Rattle.om_node.specs.declared.keeping.Limits.{Limits}
 use Rattle.om_worker_parts.specs.declared.manager_link.RoundOutcome.{RoundOutcome}
 use Rattle.om_worker_parts.specs.declared.manager_link.ManagerPhase.{ManagerPhase}
 use Rattle.om_worker_parts.specs.declared.manager_link.ManagerPhase.TheVariants.{Gathers, Quiet}
 
--- a process handed over all that it had: its pending rows, in order, and then the outputs that the manager had not
+-- a process handed over all that it had: its pending rows, in order and at once, and then the outputs that the manager had not
 pub record HasHandedOver (before : ManagerState) (p : ℕ) (old : CoreState) (after : ManagerState) (new : CoreState) : Type 0 where
   pub told_all : ManagerState
-  pub told : AreTold before old.round p old.pending told_all
+  pub told : AreToldAtOnce before old.round p old.pending told_all
   pub handed : AreHanded told_all new.round p (outputs_from new (length (held_by told_all p))) after
   pub none_left : new ≡ with_pending old []
   pub keeps : Keeps before after

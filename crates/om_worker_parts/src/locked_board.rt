@@ -3,7 +3,7 @@
 use om_board::{Board, Frontier, Naming};
 use om_interval::Pid;
 use om_manager::{FailError, Gathered, JoinError, Manager, OutputError, OutputNote, RecordError};
-use om_member::ManagerAccess;
+use om_member::{ManagerAccess, OwnRows};
 use om_recover::{Note, Row};
 use std::alloc::Global;
 use std::sync::Wait;
@@ -32,6 +32,16 @@ impl<'a, K: Naming, R: Wait> ManagerAccess for LockedBoard<'a, K, R> {
 
     fn note(&mut self, alloc: Global, round: u32, row: Row) -> Result<Note, RecordError> {
         self.board.note(self.rt, alloc, round, row, self.frontier)
+    }
+
+    fn note_rows(
+        &mut self,
+        alloc: Global,
+        round: u32,
+        rows: &OwnRows<'_>,
+    ) -> (usize, Result<(), RecordError>) {
+        self.board
+            .note_rows(self.rt, alloc, rows.pid, round, rows, self.frontier)
     }
 
     fn note_output(

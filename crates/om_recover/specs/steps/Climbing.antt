@@ -1,11 +1,11 @@
 -- What a climb and its steps promise.
-use Rattle.std.specs.Prelude.{◌≡◌, ℕ, ◌+◌, ◌<◌, ◌≤◌, ◌⊎◌, Option, MatchOption, List, [], ◌∷◌, ◌++◌, All, length, slice_index}
+use Rattle.std.specs.Prelude.{◌≡◌, ℕ, ◌+◌, ◌-◌, ◌*◌, ◌<◌, ◌≤◌, ◌⊎◌, Option, MatchOption, List, [], ◌∷◌, ◌++◌, All, length, sum, slice_index}
 use Rattle.om_interval.specs.Vectors.{IsBelow}
 use Rattle.om_recover.specs.Rows.{Rows, HasRow}
 use Rattle.om_recover.specs.Recoverable.{IsStable, IsRecoverable}
 use Rattle.om_recover.specs.Attempts.{Attempt}
 use Rattle.om_recover.specs.Climb.{IsLeastStable, AreLooks, IsClimbed}
-use Rattle.om_recover.specs.Counted.{IsLater, AreInTurn}
+use Rattle.om_recover.specs.Counted.{IsLater, AreInTurn, IsSearched}
 use Rattle.om_recover.specs.declared.row.Row.{Row}
 
 -- an attempt was added, of that start and state
@@ -50,6 +50,10 @@ pub record ArePassed (n : ℕ) (rows : Rows) (low high : List ℕ) (p : ℕ) (ol
   pub few : length made ≤ p
   pub later : All (IsLater n rows low high) made
   pub turns : AreInTurn n rows low made high
+
+-- passes were made from one state to another: at most n attempts for each interval by which the state was raised, and n in vain
+abbrev pub IsRaised : ℕ → Rows → List ℕ → List ℕ → List Attempt → List Attempt → Type 0
+IsRaised n rows low high old new = ArePassed n rows low high (n * (sum high - sum low) + n) old new
 
 -- `IsNeeded`, where each interval after the first is at most the bound's place
 pub data IsNeededWithin (rows : Rows) (state bound : List ℕ) (p x : ℕ) : ℕ → ℕ → Type 0 where
@@ -109,6 +113,12 @@ IsOutOfReach n rows p x = (other : List ℕ) → IsRecoverable n rows other → 
 -- what comes of a climb
 abbrev pub TellsClimb : ℕ → Rows → List ℕ → ℕ → ℕ → Option (List ℕ) → Type 0
 TellsClimb n rows state p x told = MatchOption told (IsOutOfReach n rows p x) (IsClimbed n rows state p x)
+
+-- a search from the higher of two intervals, or, where none has the process there, an attempt at it and a search from the lower
+pub data IsSearchedByEither (n : ℕ) (rows : Rows) (state : List ℕ) (p low high : ℕ) (raised : List ℕ) (old new : List Attempt) : Type 0 where
+  from_high : IsSearched n rows state p high raised old new → IsSearchedByEither n rows state p low high raised old new
+  from_low : (mid : List Attempt) → IsAttempted rows state p high old mid → IsOutOfReach n rows p high → IsSearched n rows state p low raised mid new
+      → IsSearchedByEither n rows state p low high raised old new
 
 -- where a climb begins, unless it is known to fail
 abbrev pub TellsBegin : ℕ → Rows → List ℕ → ℕ → ℕ → Option (List ℕ) → Type 0

@@ -5,7 +5,7 @@ ghost use Rattle.om_interval.specs.Vectors.{IsBelow};
 ghost use Rattle.om_recover.specs.Rows.{IsLawful};
 ghost use Rattle.om_recover.specs.Recoverable.{IsStable, IsRecoverable, IsGreatest};
 ghost use Rattle.om_recover.specs.Climb.{IsLeastStable};
-ghost use Rattle.om_recover.specs.steps.Climbing.{ArePassed, AreWithinOrStarted, IsAtRest, TellsLeast, IsOutOfReach};
+ghost use Rattle.om_recover.specs.steps.Climbing.{ArePassed, AreWithinOrStarted, IsAtRest, IsRaised, IsSearchedByEither, TellsLeast, IsOutOfReach};
 ghost use Rattle.om_recover.specs.steps.Memory.{AreRemembered};
 ghost use Rattle.om_recover.specs.Counted.{IsSearched};
 
@@ -36,10 +36,61 @@ pub fn greatest_from<S: Shelf>(
     ensures remembered { AreRemembered (length state.now) (S.rows shelf.now) result memories.new.places }
     ensures counted { IsSearched (length state.now) (S.rows shelf.now) state.now pid x result work.old.attempts work.new.attempts }
 {
-    let Some(climbed) = climb(shelf, state, pid, x, memories, work) else {
-        return *state;
-    };
-    let mut raised = climbed;
+    match climb(shelf, state, pid, x, memories, work) {
+        None => *state,
+        Some(climbed) => highest_from(shelf, &climbed, memories, work),
+    }
+}
+
+/// Returns the greatest recoverable state, where each is within the given one or has the process at the lower of two intervals or
+/// above. The higher is tried first: from there one climb does what each interval between would have a climb of its own for.
+pub fn greatest_by_either<S: Shelf>(
+    shelf: &S,
+    state: &DepVec,
+    pid: Pid,
+    low: u32,
+    high: u32,
+    memories: &mut FailedClimbs,
+    work: &mut Work,
+) -> DepVec
+    requires lawful { IsLawful (length state.now) (S.rows shelf.now) }
+    requires state { IsRecoverable (length state.now) (S.rows shelf.now) state.now }
+    requires process { pid < length state.now }
+    requires low { IsStable (S.rows shelf.now) pid low }
+    requires high { IsStable (S.rows shelf.now) pid high }
+    requires above { slice_index state.now pid < low }
+    requires order { low ≤ high }
+    requires remembered { AreRemembered (length state.now) (S.rows shelf.now) state.now memories.old.places }
+    requires others { AreWithinOrStarted (length state.now) (S.rows shelf.now) state.now pid low }
+    ensures greatest { IsGreatest (length state.now) (S.rows shelf.now) result }
+    ensures remembered { AreRemembered (length state.now) (S.rows shelf.now) result memories.new.places }
+    ensures counted { IsSearchedByEither (length state.now) (S.rows shelf.now) state.now pid low high result work.old.attempts work.new.attempts }
+{
+    if low == high {
+        return greatest_from(shelf, state, pid, low, memories, work);
+    }
+    match climb(shelf, state, pid, high, memories, work) {
+        None => greatest_from(shelf, state, pid, low, memories, work),
+        Some(climbed) => highest_from(shelf, &climbed, memories, work),
+    }
+}
+
+// Returns what passes raise a recoverable state to, until no process can be raised.
+fn highest_from<S: Shelf>(
+    shelf: &S,
+    state: &DepVec,
+    memories: &mut FailedClimbs,
+    work: &mut Work,
+) -> DepVec
+    requires lawful { IsLawful (length state.now) (S.rows shelf.now) }
+    requires state { IsRecoverable (length state.now) (S.rows shelf.now) state.now }
+    requires remembered { AreRemembered (length state.now) (S.rows shelf.now) state.now memories.old.places }
+    ensures greatest { IsGreatest (length state.now) (S.rows shelf.now) result }
+    ensures above { IsBelow state.now result }
+    ensures remembered { AreRemembered (length state.now) (S.rows shelf.now) result memories.new.places }
+    ensures counted { IsRaised (length state.now) (S.rows shelf.now) state.now result work.old.attempts work.new.attempts }
+{
+    let mut raised = *state;
     loop {
         if shelf.all_end_by(&raised) {
             return raised;

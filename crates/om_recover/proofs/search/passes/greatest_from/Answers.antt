@@ -1,70 +1,37 @@
-use Rattle.std.proofs.Common.{◌≡◌, ℕ, ◌+◌, List, sym, ◌∙◌, refl, subst, arith, length, slice_index, true≢false}
-use Rattle.om_interval.specs.Vectors.{IsBelow}
-use Rattle.om_recover.specs.Recoverable.{IsRecoverable}
+use Rattle.std.proofs.Common.{subst, sym}
+use Rattle.om_recover.specs.Rows.{IsLawful}
+use Rattle.om_recover.specs.Recoverable.{IsRecoverable, IsGreatest}
 use Rattle.om_recover.specs.steps.Memory.{AreRemembered}
+use Rattle.om_recover.specs.steps.Climbing.{IsRaised}
 use Rattle.om_recover.proofs.MemoryLemmas.{all_raised}
-use Rattle.om_recover.specs.steps.Climbing.{ArePassed, IsOutOfReach}
-use Rattle.om_interval.proofs.VectorLemmas.{below_each_other, below_itself}
-use Rattle.om_recover.proofs.SearchLemmas.{searching_start, searching_step, searching_ends, searched_at_once, state_rises, greatest_at_rest, all_out_of_reach, passed_nothing}
+use Rattle.om_recover.proofs.SearchLemmas.{searched_at_once, searched_by}
 use Rattle.om_recover.proofs.search.passes.greatest_from.Goals as goal
 
-pub returns-in_default-clause-counted : goal.returns-in_default-clause-counted
-returns-in_default-clause-counted g c = searched_at_once _ _ _ _ _ _ _ c.climb.ensures.counted c.in_default.ensures.climbed
+pub returns-in-None-clause-counted : goal.returns-in-None-clause-counted
+returns-in-None-clause-counted g c = searched_at_once _ _ _ _ _ _ _ c.climb.ensures.counted c.in-None.ensures.climbed
 
-pub loop-raised-init : goal.loop-raised-init
-loop-raised-init g c = record {
-  searching = searching_start _ _ _ _ _ _ _ _ c.requires.process refl c.requires.above c.in-Some.ensures.climbed c.climb.ensures.counted;
-  remembered = all_raised _ _ _ _ _ c.requires.lawful c.in-Some.ensures.climbed.recoverable c.in-Some.ensures.climbed.above c.climb.ensures.remembered;
-}
+pub highest_from-requires-clause-lawful : goal.highest_from-requires-clause-lawful
+highest_from-requires-clause-lawful g c = subst (λ n. IsLawful n (g.S.Shelf.rows c.args.shelf.now)) (sym c.in-Some.ensures.climbed.recoverable.places) c.requires.lawful
 
-pub returns-then-leq-clause-greatest : goal.returns-then-leq-clause-greatest
-returns-then-leq-clause-greatest g c =
-    let places : length c.loop-raised.raised ≡ length c.args.state.now = c.loop-raised.invariant.searching.recoverable.places in
-    let rest : c.pass-higher.result ≡ c.loop-raised.raised = below_each_other _ _ (c.leq.ensures.0 c.if-leq.true) c.pass-higher.ensures.above in
-    greatest_at_rest _ _ _ c.loop-raised.invariant.searching.recoverable (λ p within.
-    subst (λ n. IsOutOfReach n (g.S.Shelf.rows c.args.shelf.now) p (slice_index c.loop-raised.raised p + 1)) places
-    (c.pass-higher.ensures.at_rest rest p (omega (arith, within, places))))
+pub highest_from-requires-clause-state : goal.highest_from-requires-clause-state
+highest_from-requires-clause-state g c =
+    subst (λ n. IsRecoverable n (g.S.Shelf.rows c.args.shelf.now) c.in-Some.climbed) (sym c.in-Some.ensures.climbed.recoverable.places) c.in-Some.ensures.climbed.recoverable
 
-pub returns-then-leq-clause-counted : goal.returns-then-leq-clause-counted
-returns-then-leq-clause-counted g c =
-    let places : length c.loop-raised.raised ≡ length c.args.state.now = c.loop-raised.invariant.searching.recoverable.places in
-    let rest : c.pass-higher.result ≡ c.loop-raised.raised = below_each_other _ _ (c.leq.ensures.0 c.if-leq.true) c.pass-higher.ensures.above in
-    searching_ends _ _ _ _ _ _ _ _ _ c.loop-raised.invariant.searching
-    (subst (λ n. ArePassed n (g.S.Shelf.rows c.args.shelf.now) c.loop-raised.raised c.loop-raised.raised n c.loop-raised.work.attempts c.pass-higher.new.work.attempts) places
-    (subst (λ (higher : List ℕ). ArePassed (length c.loop-raised.raised) (g.S.Shelf.rows c.args.shelf.now) c.loop-raised.raised higher (length c.loop-raised.raised) c.loop-raised.work.attempts c.pass-higher.new.work.attempts) rest c.pass-higher.ensures.counted))
+pub highest_from-requires-clause-remembered : goal.highest_from-requires-clause-remembered
+highest_from-requires-clause-remembered g c =
+    subst (λ n. AreRemembered n (g.S.Shelf.rows c.args.shelf.now) c.in-Some.climbed c.climb.new.memories.places) (sym c.in-Some.ensures.climbed.recoverable.places)
+    (all_raised _ _ _ _ _ c.requires.lawful c.in-Some.ensures.climbed.recoverable c.in-Some.ensures.climbed.above c.climb.ensures.remembered)
 
-pub loop-raised-smaller : goal.loop-raised-smaller
-loop-raised-smaller g c =
-    let places : length c.loop-raised.raised ≡ length c.args.state.now = c.loop-raised.invariant.searching.recoverable.places in
-    state_rises _ _ _ _ c.requires.lawful (subst (λ n. IsRecoverable n (g.S.Shelf.rows c.args.shelf.now) c.pass-higher.result) places c.pass-higher.ensures.recoverable) c.pass-higher.ensures.above
-    (λ same. true≢false (sym (c.leq.ensures.1 (subst (λ (v : List ℕ). IsBelow v c.loop-raised.raised) (sym same) (below_itself c.loop-raised.raised))) ∙ c.if-leq.false))
+pub returns-in-Some-clause-greatest : goal.returns-in-Some-clause-greatest
+returns-in-Some-clause-greatest g c =
+    subst (λ n. IsGreatest n (g.S.Shelf.rows c.args.shelf.now) c.highest_from.result) c.in-Some.ensures.climbed.recoverable.places c.highest_from.ensures.greatest
 
-pub loop-raised-preserved : goal.loop-raised-preserved
-loop-raised-preserved g c =
-    let places : length c.loop-raised.raised ≡ length c.args.state.now = c.loop-raised.invariant.searching.recoverable.places in
-    record {
-      searching = searching_step _ _ _ _ _ _ _ _ _ _ c.loop-raised.invariant.searching
-          (subst (λ n. IsRecoverable n (g.S.Shelf.rows c.args.shelf.now) c.pass-higher.result) places c.pass-higher.ensures.recoverable) c.pass-higher.ensures.above
-          (λ same. true≢false (sym (c.leq.ensures.1 (subst (λ (v : List ℕ). IsBelow v c.loop-raised.raised) (sym same) (below_itself c.loop-raised.raised))) ∙ c.if-leq.false))
-          (subst (λ n. ArePassed n (g.S.Shelf.rows c.args.shelf.now) c.loop-raised.raised c.pass-higher.result n c.loop-raised.work.attempts c.pass-higher.new.work.attempts) places c.pass-higher.ensures.counted);
-      remembered = subst (λ n. AreRemembered n (g.S.Shelf.rows c.args.shelf.now) c.pass-higher.result c.pass-higher.new.memories.places) places c.pass-higher.ensures.remembered;
-    }
+pub returns-in-Some-clause-remembered : goal.returns-in-Some-clause-remembered
+returns-in-Some-clause-remembered g c =
+    subst (λ n. AreRemembered n (g.S.Shelf.rows c.args.shelf.now) c.highest_from.result c.highest_from.new.memories.places) c.in-Some.ensures.climbed.recoverable.places c.highest_from.ensures.remembered
 
-pub pass-higher-requires-clause-remembered : goal.pass-higher-requires-clause-remembered
-pass-higher-requires-clause-remembered g c =
-    subst (λ n. AreRemembered n (g.S.Shelf.rows c.args.shelf.now) c.loop-raised.raised c.loop-raised.memories.places) (sym c.loop-raised.invariant.searching.recoverable.places) c.loop-raised.invariant.remembered
-
-pub returns-then-leq-clause-remembered : goal.returns-then-leq-clause-remembered
-returns-then-leq-clause-remembered g c =
-    let places : length c.loop-raised.raised ≡ length c.args.state.now = c.loop-raised.invariant.searching.recoverable.places in
-    let rest : c.pass-higher.result ≡ c.loop-raised.raised = below_each_other _ _ (c.leq.ensures.0 c.if-leq.true) c.pass-higher.ensures.above in
-    subst (λ (higher : List ℕ). AreRemembered (length c.args.state.now) (g.S.Shelf.rows c.args.shelf.now) higher c.pass-higher.new.memories.places) rest
-    (subst (λ n. AreRemembered n (g.S.Shelf.rows c.args.shelf.now) c.pass-higher.result c.pass-higher.new.memories.places) places c.pass-higher.ensures.remembered)
-
-pub returns-then-all_end_by-clause-greatest : goal.returns-then-all_end_by-clause-greatest
-returns-then-all_end_by-clause-greatest g c =
-    let recoverable = c.loop-raised.invariant.searching.recoverable in
-    greatest_at_rest _ _ _ recoverable (all_out_of_reach _ _ _ recoverable (c.all_end_by.ensures c.if-all_end_by.true))
-
-pub returns-then-all_end_by-clause-counted : goal.returns-then-all_end_by-clause-counted
-returns-then-all_end_by-clause-counted g c = searching_ends _ _ _ _ _ _ _ _ _ c.loop-raised.invariant.searching (passed_nothing _ _ _ _ _)
+pub returns-in-Some-clause-counted : goal.returns-in-Some-clause-counted
+returns-in-Some-clause-counted g c =
+    searched_by _ _ _ _ _ _ _ _ _ _ c.requires.above c.in-Some.ensures.climbed c.climb.ensures.counted c.highest_from.ensures.above
+    (subst (λ n. IsRaised n (g.S.Shelf.rows c.args.shelf.now) c.in-Some.climbed c.highest_from.result c.climb.new.work.attempts c.highest_from.new.work.attempts)
+    c.in-Some.ensures.climbed.recoverable.places c.highest_from.ensures.counted)

@@ -40,7 +40,7 @@ greatest_from-requires-clause-start g c = (least _ _ _ _ _ _ c.requires.1 c.if-n
 pub greatest_from-requires-clause-others : goal.greatest_from-requires-clause-others
 greatest_from-requires-clause-others g c =
     let all = c.requires.1 in
-    others_of_note _ _ _ _ _ _ all.added all.greatest all.still (least _ _ _ _ _ _ all c.if-not-is_new.false (omega (arith, c.if-row-get.false, c.get.ensures))) all.process
+    others_of_note _ _ _ _ _ _ all.added all.greatest all.still (least _ _ _ _ _ _ all c.if-not-is_new.false (omega (arith, c.if-row-get.false, c.get.ensures)))
 
 pub greatest_from-requires-clause-remembered : goal.greatest_from-requires-clause-remembered
 greatest_from-requires-clause-remembered g c =

@@ -1,6 +1,6 @@
 use Rattle.std.proofs.Common.{ℕ, ap, arith, subst, sym}
 use Rattle.om_board.specs.Made.{IsMade}
-use Rattle.om_member.specs.Told.{IsToldUpTo}
+use Rattle.om_member.specs.Told.{IsToldAtOnce}
 use Rattle.om_worker_parts.specs.Acts.{HasHandedOver}
 use Rattle.om_node.specs.Nodes.{Member, TakesFrom}
 use Rattle.om_worker_parts.proofs.ActLemmas.{handed_over, takes_named}
@@ -23,5 +23,5 @@ returns-clause-over g c =
     let before = c.args.locked.now.board.now.manager in let mid = c.note-end.new.access.board.now.manager in let after = c.hand_in.new.access.board.now.manager in
     subst (λ (p : ℕ). HasHandedOver before p d.core after end) c.requires.own_is
     (handed_over before mid after d.member.own c.note-end.new.self.member.own count d.core end (ap (λ (m : Member). m.own) c.note-end.ensures.member)
-    (subst (λ e. IsToldUpTo before d.core.round d.member.own d.core.pending count e mid) c.in_ok-end.was c.note-end.ensures.told)
+    (subst (λ e. IsToldAtOnce before d.core.round d.member.own d.core.pending count e mid) c.in_ok-end.was c.note-end.ensures.told)
     c.note-end.ensures.keeps c.note-end.ensures.core c.in_ok-hand_in.ensures.handed c.in_ok-hand_in.ensures.keeps)
