@@ -1,6 +1,7 @@
 pub mod BetweenLemmas
 mod LedgerLemmas
 pub mod RecordLemmas
+mod PieceLemmas
 mod RunLemmas
 mod TakenBackLemmas
 pub mod TreeLemmas

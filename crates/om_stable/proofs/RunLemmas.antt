@@ -2,7 +2,8 @@
 use Rattle.std.proofs.Common.{◌≡◌, ◌≢◌, ◌⊎◌, inl, inr, ℕ, zero, suc, ◌+◌, ◌-◌, ◌<◌, ◌≤◌, Bool, true, false, cond, List, [], ◌∷◌, ◌++◌, length, length-take-le, drop, take, get_or, refl, sym, ap, ◌∙◌, arith, subst, Vec}
 use Rattle.std.specs.declared.alloc.Global.{Global}
 use Rattle.std.specs.Prelude.{None, Some, IsSome, is_some, filter, ◌&&◌, nat_lt, nat_le}
-use Rattle.std.specs.List.{slice_get, SwappedAt}
+use Rattle.std.specs.List.{enumerate_from, slice_get, SwappedAt}
+use Rattle.std.proofs.lemmas.List.FromFn.{get_or-enumerate_from, length-enumerate_from}
 use Rattle.std.specs.Bool.{OnTrue, OnFalse}
 use Rattle.std.specs.Ordering.{nat_cmp, eq_by_cmp, is_lt, ord_max, ord_min}
 use Rattle.std.specs.Cmp.{nat_cmp_total}
@@ -19,42 +20,6 @@ use Rattle.om_stable.specs.Content.{Records, with_all, between, bytes_of, rows_o
 use Rattle.om_stable.specs.steps.Runs.{AreBelow, rows_from}
 use Rattle.om_stable.proofs.RecordLemmas.{same_records, get-insert_here, get-insert_apart, get-with_all_below, get-with_all_above, get-with_all_at, retained_from_parts, length-bytes_of_taken}
 use Rattle.om_stable.proofs.TreeLemmas.{entries_of_empty}
-
--- ---- a list from whose front some are gone
-pub bytes_dropped : (items : List (Vec ℕ Global)) (gone count : ℕ) → bytes_of (drop (gone + count) items) ≡ drop count (bytes_of (drop gone items))
-bytes_dropped items gone count =
-    ap bytes_of (sym (drop-drop count gone items)) ∙ sym (drop-map (λ (r : Vec ℕ Global). r.items) count (drop gone items))
-
-pub bytes_taken : (items : List (Vec ℕ Global)) (gone count : ℕ) → bytes_of (drop gone (take (gone + count) items)) ≡ take count (bytes_of (drop gone items))
-bytes_taken items gone count =
-    ap bytes_of (drop-take gone count items) ∙ sym (take-map (λ (r : Vec ℕ Global). r.items) count (drop gone items))
-
--- ---- records that are moved to the front, one by one
--- so many of those from `from` on stand at the front, and behind as many nothing has changed
-pub record IsMovedUpTo (old now : List (Vec ℕ Global)) (from count : ℕ) : Type 0 where
-  pub long : length now ≡ length old
-  pub moved : (i : ℕ) (d : Vec ℕ Global) → i < count → get_or now i d ≡ get_or old (from + i) d
-  pub rest : (i : ℕ) (d : Vec ℕ Global) → from + count ≤ i → get_or now i d ≡ get_or old i d
-
-pub moved_none : (old : List (Vec ℕ Global)) (from : ℕ) → IsMovedUpTo old old from 0
-moved_none old from = record { long = refl; moved = λ i d h. absurd (omega arith); rest = λ i d h. refl }
-
-pub moved_more : (old now new : List (Vec ℕ Global)) (from count : ℕ) → IsMovedUpTo old now from count → SwappedAt now new count (from + count) → length new ≡ length now → IsMovedUpTo old new from (count + 1)
-moved_more old now new from count so_far swapped same = record {
-  long = same ∙ so_far.long;
-  moved = λ i d h. ⊎_elim
-      (λ here. ap (λ k. get_or new k d) here ∙ swapped.0 d ∙ so_far.rest (from + count) d (omega arith) ∙ ap (λ k. get_or old (from + k) d) (sym here))
-      (λ before. let one : i ≢ count = omega arith in let other : i ≢ from + count = omega arith in swapped.2 i d one other ∙ so_far.moved i d (omega arith))
-      (cases_eq i count);
-  rest = λ i d h. let one : i ≢ count = omega arith in let other : i ≢ from + count = omega arith in swapped.2 i d one other ∙ so_far.rest i d (omega arith);
-}
-
-pub moved_all : (old now : List (Vec ℕ Global)) (from left count : ℕ) → left ≡ length old - from → from ≤ length old → left ≤ count → IsMovedUpTo old now from count → take left now ≡ drop from old
-moved_all old now from left count is within enough all =
-    let len = all.long in
-    let short : length (take left now) ≡ left = length-take-le left now (omega arith) in
-    same_lists (take left now) (drop from old) (omega (arith, length-drop from old)) (λ k d h.
-    get_or-take left now k d (omega arith) ∙ all.moved k d (omega arith) ∙ sym (get_or-drop from old k d))
 
 -- ---- what stands at an interval
 abbrev pub run_of : ℕ → List (List ℕ) → Records
@@ -339,16 +304,14 @@ module _ (first : ℕ) (rs : List (List ℕ)) (held : Records) (is : run_of firs
         (⊎_elim (λ h. inl (h ∙ starts)) (λ h. inr h) (one_of_starts start first low greater)) (omega arith) starts_high.1
         (⊎_elim (λ h. inl (omega arith)) (λ h. inr (omega arith)) (one_of_ends (again + count) (first + long) top lesser))))
 
-  pub found_between : (items : List (Vec ℕ Global)) (rows : List (ℕ × Vec ℕ Global)) (after to again until long a b at : ℕ) → bytes_of items ≡ rs → long ≡ length rs
+  pub found_between : (rows : List (ℕ × Vec ℕ Global)) (after to again until long a b at : ℕ) → long ≡ length rs
       → again ≡ after → until ≡ to → AreBelow first long (again + 1) a → AreBelow first long (until + 1) b → a < b → at ≡ first + a
-      → rows_of rows ≡ rows_from at (bytes_of (take (b - a) (drop a items))) → rows_of rows ≡ between held after to
-  found_between items rows after to again until long a b at bytes len same until_to low high lt start found =
+      → rows_of rows ≡ rows_from at (take (b - a) (drop a rs)) → rows_of rows ≡ between held after to
+  found_between rows after to again until long a b at len same until_to low high lt start found =
       let low_part = subst (λ n. AreBelow first n (after + 1) a) len (subst (λ n. AreBelow first long (n + 1) a) same low) in
       let high_part = subst (λ n. AreBelow first n (to + 1) b) len (subst (λ n. AreBelow first long (n + 1) b) until_to high) in
       found
-      ∙ ap (λ x. rows_from x (bytes_of (take (b - a) (drop a items)))) start
-      ∙ ap (rows_from (first + a)) (sym (take-map (λ (r : Vec ℕ Global). r.items) (b - a) (drop a items)))
-      ∙ ap (λ cs. rows_from (first + a) (take (b - a) cs)) (sym (drop-map (λ (r : Vec ℕ Global). r.items) a items) ∙ ap (drop a) bytes)
+      ∙ ap (λ x. rows_from x (take (b - a) (drop a rs))) start
       ∙ between_in_run first rs after to a b low_part high_part lt
       ∙ ap (λ m. between m after to) is
 
@@ -372,3 +335,11 @@ rows_from-next found new first k x recs v w bytes within here so_far at copied s
     ∙ ap (λ r. rows_from first rs ++ (first + length rs, r) ∷ []) item
     ∙ sym (rows_from-push first rs (get_or recs k v).items)
     ∙ ap (rows_from first) (sym (map_more (λ (r : Vec ℕ Global). r.items) recs k v within))
+
+-- a turn of a loop over a list with numbers
+pub turn_at : {X : Type 0} (xs : List X) (k i : ℕ) (x : X) → (k < length (enumerate_from 0 xs)) × ((i, x) ≡ get_or (enumerate_from 0 xs) k (i, x))
+    → (k < length xs) × (i ≡ k) × (x ≡ get_or xs k x)
+turn_at {X = X} xs k i x turn =
+    let lt : k < length xs = subst (λ n. k < n) (length-enumerate_from 0 xs) turn.0 in
+    let number : i ≡ 0 + k = ap (λ (p : ℕ × X). p.0) (turn.1 ∙ get_or-enumerate_from 0 xs k (i, x) lt) in
+    (lt, omega (arith, number), ap (λ (p : ℕ × X). p.1) (turn.1 ∙ get_or-enumerate_from 0 xs k (i, x) lt))

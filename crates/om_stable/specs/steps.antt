@@ -3,4 +3,5 @@ pub mod Codes
 pub mod Between
 pub mod Stop
 pub mod TakenBack
+pub mod Pieces
 pub mod Runs

@@ -72,7 +72,7 @@ impl Receipts {
         if !self.in_line {
             return self.tree.insert_all(alloc, first, recs);
         }
-        if self.run.append(alloc, first, recs)? {
+        if self.run.append(first, recs)? {
             return Ok(());
         }
         let mut tree = self.run.to_tree(alloc)?;

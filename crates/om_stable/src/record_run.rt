@@ -59,12 +59,7 @@ impl RecordRun {
 
     // Puts copies of the bytes at `first`, `first + 1`, .., all of them or none. Answers whether it put them: it does where there
     // is none to put, where it has none, and else only right behind the last.
-    pub(crate) fn append(
-        &mut self,
-        alloc: Global,
-        first: u32,
-        recs: &[Vec<u8>],
-    ) -> Result<bool, AllocError>
+    pub(crate) fn append(&mut self, first: u32, recs: &[Vec<u8>]) -> Result<bool, AllocError>
         requires { first + length recs.now ≤ INTERVALS }
         ensures put { IfOk result (λ put.
             OnTrue put (self.new ≡ with_all self.old first (bytes_of recs.now))) }
@@ -80,7 +75,7 @@ impl RecordRun {
         if u64::from(first) != self.first + self.records.len() as u64 {
             return Ok(false);
         }
-        self.records.push_all(alloc, recs)?;
+        self.records.push_all(recs)?;
         Ok(true)
     }
 
@@ -90,7 +85,8 @@ impl RecordRun {
     {
         let mut tree = RecordTree::new(alloc);
         if self.records.len() > 0 {
-            tree.insert_all(alloc, self.first as u32, self.records.as_slice())?;
+            let records = self.records.copies(alloc, 0, self.records.len())?;
+            tree.insert_all(alloc, self.first as u32, &records)?;
         }
         Ok(tree)
     }
@@ -104,13 +100,14 @@ impl RecordRun {
     ) -> Result<Vec<(u32, Vec<u8>)>, AllocError>
         ensures { IfOk result (λ found. rows_of found.items ≡ between self.now after to) }
     {
-        let records = self.records.as_slice();
-        let from = count_below(self.first, records.len(), u64::from(after) + 1);
-        let end = count_below(self.first, records.len(), u64::from(to) + 1);
+        let len = self.records.len();
+        let from = count_below(self.first, len, u64::from(after) + 1);
+        let end = count_below(self.first, len, u64::from(to) + 1);
         if end <= from {
             return Ok(Vec::new(alloc));
         }
-        copies(alloc, self.first + from as u64, &records[from..end])
+        let records = self.records.copies(alloc, from, end - from)?;
+        numbered(alloc, self.first + from as u64, records)
     }
 
     // Removes the records above `r`.
@@ -143,14 +140,18 @@ fn count_below(first: u64, len: usize, bound: u64) -> usize
     }
 }
 
-// Copies of records that stand from `first` on, each with its interval.
-fn copies(alloc: Global, first: u64, records: &[Vec<u8>]) -> Result<Vec<(u32, Vec<u8>)>, AllocError>
-    requires { first + length records.now ≤ INTERVALS }
-    ensures { IfOk result (λ found. rows_of found.items ≡ rows_from first (bytes_of records.now)) }
+// Returns records that stand from `first` on, each with its interval.
+fn numbered(
+    alloc: Global,
+    first: u64,
+    records: Vec<Vec<u8>>,
+) -> Result<Vec<(u32, Vec<u8>)>, AllocError>
+    requires { first + length records.items ≤ INTERVALS }
+    ensures { IfOk result (λ found. rows_of found.items ≡ rows_from first (bytes_of records.items)) }
 {
     let mut found = Vec::new(alloc);
-    for (k, bytes) in records.iter().enumerate() {
-        found.push(((first + k as u64) as u32, Vec::from_slice(alloc, bytes)?))?;
+    for (k, bytes) in records.into_iter().enumerate() {
+        found.push(((first + k as u64) as u32, bytes))?;
     }
     Ok(found)
 }

@@ -1,8 +1,0 @@
-use Rattle.std.proofs.Common.{◌≡◌, take}
-use Rattle.om_stable.specs.Content.{bytes_of, rows_of}
-use Rattle.om_stable.specs.steps.Runs.{rows_from}
-use Rattle.om_stable.proofs.record_run.copies.Given as goal
-
--- the records so far are copied
-abbrev pub invariant-loop-k : goal.invariant-loop-k
-invariant-loop-k l = rows_of l.found.items ≡ rows_from l.first (bytes_of (take l.k l.records))
