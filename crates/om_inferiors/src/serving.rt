@@ -77,15 +77,7 @@ pub fn serve<R: Wish, W: Write>(
         decoder: Decoder::new(alloc),
         acks: true,
     };
-    let mut chunk = [0; MOST_READ];
-    for _ in 0..MOST_TURNS {
-        match session.turn(&mut chunk, reader, writer)? {
-            Turn::More => {}
-            Turn::End => return Ok(()),
-            Turn::Last => return Ok(()),
-        }
-    }
-    Err(ServeError::CannotRead)
+    session.answer_all(reader, writer)
 }
 
 // What became of one reading.
@@ -147,6 +139,28 @@ fn acks_after(acks: bool, packet: &[u8]) -> bool
 }
 
 impl Session {
+    // Answers the packets that a reader gives, until it has no more or the last packet was answered. Whoever owns the session drops it
+    // once, behind this.
+    fn answer_all<R: Wish, W: Write>(
+        &mut self,
+        reader: &mut R,
+        writer: &mut W,
+    ) -> Result<(), ServeError>
+        ensures served { OnOk result ((bytes : List ℕ) × (written : List ℕ) × (over : Bool) × (last : SessionState)
+            × Takes (session_of self.old) bytes written over last × Appends (W.contents writer.old) (W.contents writer.new) written
+            × Consumes (R.remaining reader.old) (R.remaining reader.new) bytes × (over ≡ false → IsAtEnd (R.remaining reader.new))) }
+    {
+        let mut chunk = [0; MOST_READ];
+        for _ in 0..MOST_TURNS {
+            match self.turn(&mut chunk, reader, writer)? {
+                Turn::More => {}
+                Turn::End => return Ok(()),
+                Turn::Last => return Ok(()),
+            }
+        }
+        Err(ServeError::CannotRead)
+    }
+
     // Reads once, and takes what came.
     fn turn<R: Wish, W: Write>(
         &mut self,

@@ -1,6 +1,6 @@
 //! In which interval the process of a store stands at first.
 
-ghost use Rattle.std.specs.Prelude.{◌≡◌, ◌≤◌, IfErr, IfOk, IsErrOf, None, false, length, true};
+ghost use Rattle.std.specs.Prelude.{◌≡◌, ◌≤◌, IfErr, IfOk, IsErrOf, None, Ok, Some, false, length, true};
 ghost use Rattle.om_format.specs.CheckpointViews.{checkpoint_record};
 ghost use Rattle.om_process.specs.Stored.{anyone, BeginsWith, IsNoMatterOfContent, IsReplay, Refuses};
 ghost use Rattle.om_process.specs.declared.limits.TheConstants.{LAST_INTERVAL};
@@ -9,7 +9,7 @@ ghost use Rattle.om_process.specs.steps.Rows.{RefusesStart};
 ghost use Rattle.om_stable.specs.Calls.{IsCleanCall, UsesStore};
 ghost use Rattle.om_stable.specs.Content.{Content, between, rows_of};
 ghost use Rattle.om_stored_timeline.specs.Stored.{IsLastStored, IsStored, IsStoredAt, IsTimelineAt, RefusesStored, event_of};
-ghost use Rattle.om_timeline.specs.Timeline.{at, machine_here};
+ghost use Rattle.om_timeline.specs.Timeline.{TimelineState, at, machine_here};
 
 use crate::following::Follower;
 use crate::reading::{beginning, receipts_behind};
@@ -126,13 +126,33 @@ fn timeline_at<S: Stable>(
     let head = &checkpoint.head;
     let (process, n, begin) = (head.pid, head.vec.n() as u32, head.interval);
     let first = machine_of(alloc, checkpoint)?;
-    let mut timeline = told_from(alloc, store, process, n, begin, first)?;
-    let event = event_of(begin, x);
-    if stands(alloc, &mut timeline, event, there.machine())? {
-        return Ok(timeline);
+    let timeline = told_from(alloc, store, process, n, begin, first)?;
+    match standing_at(alloc, timeline, event_of(begin, x), there.machine())? {
+        Some(timeline) => Ok(timeline),
+        None => {
+            let first = copy_of(alloc, there.machine())?;
+            told_from(alloc, store, process, n, x, first)
+        }
     }
-    let first = copy_of(alloc, there.machine())?;
-    told_from(alloc, store, process, n, x, first)
+}
+
+// Returns a timeline as it stands before an event, where the machine there is this one; none where it is another. Whatever does not
+// stand there is dropped here, so that its owner above has nothing to drop.
+fn standing_at(
+    alloc: Global,
+    mut timeline: Timeline,
+    event: usize,
+    machine: &Machine,
+) -> Result<Option<Timeline>, AllocError>
+    ensures at { (t : TimelineState) → result ≡ Ok (Some t) → t ≡ at timeline event 0 }
+    ensures here { (t : TimelineState) → result ≡ Ok (Some t) → machine_here t ≡ machine.now }
+    ensures elsewhere { result ≡ Ok None → event ≤ length timeline.deeds → machine_here (at timeline event 0) ≡ machine.now → ⊥ }
+{
+    match stands(alloc, &mut timeline, event, machine) {
+        Ok(true) => Ok(Some(timeline)),
+        Ok(false) => Ok(None),
+        Err(_) => Err(AllocError),
+    }
 }
 
 // Returns the event right behind the receipt of interval `x`, of a timeline that begins in another one.
