@@ -1,4 +1,6 @@
 //! The command `debug`: processes of a record under gdb.
+//!
+//! In an order of reading: `command` (one process), `all` (all of them), `symbols` (the files that gdb asks for), `error`.
 #![tactic(auto)]
 
 pub use all::{debug_all, open_all};

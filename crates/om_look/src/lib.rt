@@ -3,7 +3,7 @@
 //! In an order of reading:
 //!
 //! - what a store holds: `content` (the text of all), `lines` (a record as a line), `gathering` (the checkpoints), `stops` (how
-//!   far replays go), `spans` (intervals as ranges), `reading`
+//!   far replays go), `spans` (intervals as ranges), `reading`, `fault`
 //! - what a run is told that takes it up: `rows` (a manager's, and the senders of receipts), `about` (what the store is of)
 //! - how a process goes on: `tracing`, `trace_text` (its lines), `writes` (what instructions write)
 #![tactic(auto)]

@@ -9,7 +9,7 @@
 //!   its text)
 //! - what all modes share: `cluster_script` (the lines), `random_kills` (kills that are drawn in place of lines), `run_text` (the text of a run), `error`, `laws`
 //! - `run`; `waiting` (what its processes wait for), `trapped` (which of them trapped),
-//!   `kills_left` (which kills did not come)
+//!   `refused_sends` (how many sends were refused), `kills_left` (which kills did not come)
 //! - `check`: `run --check` and `run --witness`, with `checked` (the comparison) and `event_text` (the run without failures as a
 //!   script)
 //! - `followed`: `run --follow`; `followed_raw`: with `--raw` too

@@ -10,7 +10,10 @@ use std::alloc::{AllocError, Global};
 use std::collections::BTreeMap;
 use std::fmt::Write;
 
-// The frames that were made and may still be given, with their numbers: by sender, receiver, incarnation and number of the message.
+// How many messages of a pair come until those of it that are not given any more are dropped.
+const FORGOTTEN_EACH: u32 = 16;
+
+// The frames that were made and may still be given, and a few more, with their numbers: by sender, receiver, incarnation and number of the message.
 #[derive(Drop)]
 pub(crate) struct Frames {
     numbers: BTreeMap<(Pid, Pid, u32, u32), usize>,
@@ -26,9 +29,9 @@ impl Frames {
         }
     }
 
-    // Returns the frame of the least number of this sender, receiver and incarnation.
-    fn oldest(&self, from: Pid, to: Pid, inc: u32) -> Option<(Pid, Pid, u32, u32)> {
-        let (found, _) = self.numbers.range((from, to, inc, 0)..).next()?;
+    // Returns the frame of the greatest number below `kept` of this sender, receiver and incarnation.
+    fn last_below(&self, from: Pid, to: Pid, inc: u32, kept: u32) -> Option<(Pid, Pid, u32, u32)> {
+        let (found, _) = self.numbers.range(..(from, to, inc, kept)).next_back()?;
         if found.0 == from && found.1 == to && found.2 == inc {
             return Some((from, to, inc, found.3));
         }
@@ -36,22 +39,22 @@ impl Frames {
     }
 
     // Drops those messages of the sender to the receiver, in this incarnation, that have lower numbers: they are not given any more.
+    // The greatest goes first, so that few rows of the tree are moved.
     fn forget(&mut self, from: Pid, to: Pid, inc: u32, kept: u32) {
         for _ in 0..self.numbers.len() {
-            let Some(oldest) = self.oldest(from, to, inc) else {
+            let Some(last) = self.last_below(from, to, inc, kept) else {
                 return;
             };
-            if oldest.3 >= kept {
-                return;
-            }
-            self.numbers.remove(&oldest);
+            self.numbers.remove(&last);
         }
     }
 
-    // Numbers one more frame, and drops what is below `kept`. If there was one of the same message and incarnation, this one stands for both.
+    // Numbers one more frame, and now and then drops what is below `kept`. If there was one of the same message and incarnation, this one stands for both.
     fn make(&mut self, letter: Letter, kept: u32) -> Result<(), AllocError> {
         let Letter { from, to, inc, ssn } = letter;
-        self.forget(from, to, inc, kept);
+        if ssn % FORGOTTEN_EACH == 0 {
+            self.forget(from, to, inc, kept);
+        }
         self.numbers.insert((from, to, inc, ssn), self.made)?;
         self.made = self.made.saturating_add(1);
         Ok(())

@@ -249,8 +249,8 @@ impl<'a, 'w, R: Wait> Surroundings<'a, 'w, R> {
         }
     }
 
-    // Adds which file could not be used: by what the system answered as it was opened; or, of those that the run found, by what stands
-    // in it.
+    // Adds which file could not be used: by what the system answered as it was opened or used; or, of those that the run found, by what
+    // stands in it.
     fn add_fault(&mut self, script: &ClusterScript) {
         let Some(prefix) = self.job.running.prefix else {
             return;
