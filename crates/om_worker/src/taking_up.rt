@@ -234,6 +234,87 @@ fn make_missing<S: Ledger>(
     }
 }
 
+// Waits until all have looked at their stores, and makes what this one lacks of a start. Returns how many turns are left.
+fn complete<'a, K: Naming, R: Wait + Clock, G, O: Opener<R>>(
+    cluster: &Cluster<'a, K, R, G, O>,
+    worker: &mut Worker<'a, K>,
+    image: &'a Image,
+    store: &mut O::Store,
+    found: &Found,
+    turns: u64,
+) -> Result<u64, RunFault>
+    requires { K.cell.n ≤ MAX_PROCESSES }
+    ensures same { worker.new.links.ends ≡ worker.old.links.ends }
+    ensures left { IfOk result (λ left. left ≤ turns) }
+    ensures fault { IfErr result (IsFaultBy worker.old.links.ends.own) }
+{
+    let (pid, n) = (worker.pid(), worker.n());
+    let census = cluster.census;
+    let left = wait_for(cluster, worker, &census.looked, n as u64, turns)?;
+    if census.misses(found) {
+        return Err(RunFault::StoreMissing(pid));
+    }
+    make_missing(cluster.alloc, store, found, image, pid, n)?;
+    Ok(left)
+}
+
+// Looks at the store of a process, completes it, and tells the manager what it holds. Returns how many turns are left.
+fn take_in<'a, K: Naming, R: Wait + Clock, G, O: Opener<R>>(
+    cluster: &Cluster<'a, K, R, G, O>,
+    worker: &mut Worker<'a, K>,
+    image: &'a Image,
+    store: &mut O::Store,
+    turns: u64,
+) -> Result<u64, RunFault>
+    requires few { K.cell.n ≤ MAX_PROCESSES }
+    requires unsure { AreNeverClean O.Store.is_clean }
+    requires clean { K.OverClean → AreAlwaysClean O.Store.is_clean }
+    ensures same { worker.new.links.ends ≡ worker.old.links.ends }
+    ensures left { IfOk result (λ left. left ≤ turns) }
+    ensures fault { IfErr result (IsFaultBy worker.old.links.ends.own) }
+{
+    let found = looked_at(cluster, worker, image, store)?;
+    match complete(cluster, worker, image, store, &found, turns) {
+        Ok(left) => {
+            worker.arrive(0);
+            match worker.take_up(cluster.rt, cluster.alloc, found) {
+                Ok(()) => Ok(left),
+                Err(fault) => Err(run_fault(fault, worker.pid())),
+            }
+        }
+        Err(fault) => {
+            drop(found);
+            Err(fault)
+        }
+    }
+}
+
+// Opens the store of a process behind that of process 0, and takes it in. Returns how many turns are left beside it.
+fn taken_in<'a, K: Naming, R: Wait + Clock, G, O: Opener<R>>(
+    cluster: &Cluster<'a, K, R, G, O>,
+    worker: &mut Worker<'a, K>,
+    image: &'a Image,
+) -> Result<(O::Store, u64), RunFault>
+    requires few { K.cell.n ≤ MAX_PROCESSES }
+    requires unsure { AreNeverClean O.Store.is_clean }
+    requires clean { K.OverClean → AreAlwaysClean O.Store.is_clean }
+    ensures same { worker.new.links.ends ≡ worker.old.links.ends }
+    ensures left { IfOk result (λ made. made.1 ≤ cluster.now.config.now.turns) }
+    ensures fault { IfErr result (IsFaultBy worker.old.links.ends.own) }
+{
+    let before = worker.pid().index().min(1) as u64;
+    let turns = cluster.config.turns;
+    let left = wait_for(cluster, worker, &cluster.census.opened, before, turns)?;
+    let mut store = opened(cluster, worker)?;
+    match take_in(cluster, worker, image, &mut store, left) {
+        Ok(left) => Ok((store, left)),
+        Err(fault) => {
+            drop(store);
+            Err(fault)
+        }
+    }
+}
+
 // Takes up what an earlier run left of a process, or starts one where it left nothing, and tells the manager what its store holds.
 // Returns the process, which is down, and how many turns are left. That it failed is still to be told.
 pub(crate) fn take_up<'a, K: Naming, J: Series, R: Wait + Clock, G, O: Opener<R>>(
@@ -250,29 +331,15 @@ pub(crate) fn take_up<'a, K: Naming, J: Series, R: Wait + Clock, G, O: Opener<R>
     ensures left { IfOk result (λ made. made.1 ≤ cluster.now.config.now.turns) }
     ensures fault { IfErr result (IsFaultBy worker.old.links.ends.own) }
 {
-    let (pid, n, alloc) = (worker.pid(), worker.n(), cluster.alloc);
-    let census = cluster.census;
-    let before = pid.index().min(1) as u64;
-    let left = wait_for(
-        cluster,
-        worker,
-        &census.opened,
-        before,
-        cluster.config.turns,
-    )?;
-    let mut store = opened(cluster, worker)?;
-    let found = looked_at(cluster, worker, image, &mut store)?;
-    let left = wait_for(cluster, worker, &census.looked, n as u64, left)?;
-    if census.misses(&found) {
-        return Err(RunFault::StoreMissing(pid));
-    }
-    make_missing(alloc, &mut store, &found, image, pid, n)?;
-    worker.arrive(0);
-    if let Err(fault) = worker.take_up(cluster.rt, alloc, found) {
-        return Err(run_fault(fault, pid));
-    }
-    match DownNode::over(alloc, image, pid, n, store, channel) {
-        Ok(down_node) => Ok((down_node, left)),
-        Err(_) => Err(RunFault::Memory),
+    let (pid, n) = (worker.pid(), worker.n());
+    match taken_in(cluster, worker, image) {
+        Ok((store, left)) => match DownNode::over(cluster.alloc, image, pid, n, store, channel) {
+            Ok(down_node) => Ok((down_node, left)),
+            Err(_) => Err(RunFault::Memory),
+        },
+        Err(fault) => {
+            drop(channel);
+            Err(fault)
+        }
     }
 }

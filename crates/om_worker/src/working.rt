@@ -76,6 +76,22 @@ fn begin<'a, J: Series, R, O: Opener<R>>(
     }
 }
 
+// Asks the gate until it lets the process start, and returns the intervals at which that is to fail.
+fn admitted<'a, K: Naming, R: Wait, G: Gate, O: Opener<R>>(
+    cluster: &Cluster<'a, K, R, G, O>,
+    pid: Pid,
+) -> Result<Vec<u32>, RunFault>
+    ensures asked { OnOk result (1 ≤ cluster.now.config.now.gate_turns) }
+    ensures fault { IfErr result (IsFaultBy pid) }
+{
+    let config = cluster.config;
+    pass_gate(cluster.gate, config.gate_turns, pid)?;
+    match kills_of(cluster.alloc, &config.kills, pid) {
+        Ok(kills) => Ok(kills),
+        Err(_) => Err(RunFault::Memory),
+    }
+}
+
 // Starts a process once the gate lets it, and returns it with the intervals at which it is to fail.
 fn admit<'a, K: Naming, J: Series, R: Wait, G: Gate, O: Opener<R>>(
     cluster: &Cluster<'a, K, R, G, O>,
@@ -158,13 +174,36 @@ fn work_on<'a, K: Naming, J: Series, R: Wait + Clock, G: Gate, O: Opener<R>>(
         IfOk result (λ f. IsEndOf O.Store.is_clean (program_of image.entry.now) l.lines l.own l.n f) }
     ensures own { IsOwnEnd cluster.now.config.now job.entry.links.ends.own result }
 {
+    match admitted(cluster, job.links.own()) {
+        Ok(kills) => work_from(cluster, image, job, kills),
+        Err(fault) => {
+            drop(job);
+            Err(fault)
+        }
+    }
+}
+
+// The same, once the gate has let it, with the intervals at which it is to fail.
+fn work_from<'a, K: Naming, J: Series, R: Wait + Clock, G: Gate, O: Opener<R>>(
+    cluster: &Cluster<'a, K, R, G, O>,
+    image: &'a Image,
+    job: Job<'a, K, J, O::Store>,
+    kills: Vec<u32>,
+) -> Result<Finished<K, O::Store>, RunFault>
+    requires unsure { AreNeverClean O.Store.is_clean }
+    requires program { slice_get K.programs job.links.ends.own ≡ Some (program_of image.now) }
+    requires clean { K.OverClean → AreAlwaysClean O.Store.is_clean }
+    ensures end { let l = job.entry.links.ends in
+        IfOk result (λ f. IsEndOf O.Store.is_clean (program_of image.entry.now) l.lines l.own l.n f) }
+    ensures given { OnOk result (1 ≤ cluster.now.config.now.turns) }
+    ensures fault { IfErr result (IsFaultBy job.entry.links.ends.own) }
+{
     let Job {
         links,
         pass,
         channel,
         ..
     } = job;
-    let (pid, n) = (links.own(), links.n());
     let Cluster {
         rt,
         alloc,
@@ -172,11 +211,7 @@ fn work_on<'a, K: Naming, J: Series, R: Wait + Clock, G: Gate, O: Opener<R>>(
         stop,
         ..
     } = *cluster;
-    pass_gate(cluster.gate, config.gate_turns, pid)?;
-    let Ok(kills) = kills_of(alloc, &config.kills, pid) else {
-        return Err(RunFault::Memory);
-    };
-    let barrier = Barrier::new(cluster.returns, n);
+    let barrier = Barrier::new(cluster.returns, links.n());
     let mut worker = Worker::new(
         config,
         cluster.shared,
@@ -186,16 +221,17 @@ fn work_on<'a, K: Naming, J: Series, R: Wait + Clock, G: Gate, O: Opener<R>>(
         alloc,
         cluster.observers,
     );
-    let (down_node, left) = take_up(cluster, &mut worker, image, channel)?;
-    take_turns(
-        rt,
-        alloc,
-        left,
-        stop,
-        worker,
-        WorkerState::Failed(down_node),
-        pass,
-    )
+    match take_up(cluster, &mut worker, image, channel) {
+        Ok((down_node, left)) => {
+            let place = WorkerState::Failed(down_node);
+            take_turns(rt, alloc, left, stop, worker, place, pass)
+        }
+        Err(fault) => {
+            drop(worker);
+            drop(pass);
+            Err(fault)
+        }
+    }
 }
 
 // Does what the thread of a process does.
