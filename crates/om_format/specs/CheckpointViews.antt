@@ -1,6 +1,8 @@
 -- What is seen of a checkpoint.
-use Rattle.std.specs.Prelude.{length, map}
+use Rattle.std.specs.Prelude.{ℕ, List, length, map}
 use Rattle.om_format.specs.declared.checkpoint.Checkpoint.{Checkpoint}
+use Rattle.om_format.specs.declared.head.Head.{Head}
+use Rattle.om_format.specs.declared.queue.Queue.{Queue}
 use Rattle.om_format.specs.Queues.{queue_record}
 use Rattle.om_format.specs.Checkpoints.{CheckpointRecord}
 
@@ -12,4 +14,14 @@ checkpoint_record c = record {
   memory = c.memory;
   kept = map queue_record c.kept.items;
   outputs = queue_record c.outputs;
+}
+
+-- the checkpoint of these parts: its head, its memory, the messages that are kept, by receiver, and the outputs
+abbrev pub record_of_parts : Head → List ℕ → List Queue → Queue → CheckpointRecord
+record_of_parts head memory kept outputs = record {
+  n = length head.vec;
+  head = head;
+  memory = memory;
+  kept = map queue_record kept;
+  outputs = queue_record outputs;
 }

@@ -10,7 +10,6 @@ ghost use Rattle.om_format.specs.Pages.{page_at, page_count, kept_pages};
 ghost use Rattle.om_format.specs.Versions.{kind_of};
 ghost use Rattle.om_isa.specs.declared.memory.TheConstants.{MAX_MEMORY};
 
-use crate::checkpoint::Checkpoint;
 use crate::head::Head;
 use crate::limits::{CHECKPOINT_KIND, CHECKPOINT_KIND_M, CHECKPOINT_VERSION_2, PAGE};
 use crate::pages::page_of;
@@ -148,15 +147,16 @@ pub(crate) fn put_outputs(out: &mut Vec<u8>, queue: &Queue) -> Result<(), AllocE
     Ok(())
 }
 
-// Returns the room, in bytes, for all of a checkpoint of which so many pages are kept, or the greatest number where that is
-// more: it is made at once, and the memory need not be moved.
-pub(crate) fn room_for(checkpoint: &Checkpoint, kept: usize) -> usize {
-    let mut room = room_for_queue(&checkpoint.outputs);
-    for queue in &checkpoint.kept {
+// Returns the room, in bytes, for all of a checkpoint of n processes, of which so many pages are kept, or the greatest number
+// where that is more: it is made at once, and what was written need not be moved.
+pub(crate) fn room_for(n: usize, pages: usize, kept: &[Queue], outputs: &Queue) -> usize {
+    let mut room = room_for_queue(outputs);
+    for queue in kept {
         room = room.saturating_add(room_for_queue(queue));
     }
-    room.saturating_add(162 + 12 * checkpoint.head.vec.n())
-        .saturating_add((PAGE + 2).saturating_mul(kept))
+    room.saturating_add(162)
+        .saturating_add(n.saturating_mul(12))
+        .saturating_add((PAGE + 2).saturating_mul(pages))
 }
 
 // Returns no less than a queue has bytes.

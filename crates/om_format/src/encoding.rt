@@ -2,7 +2,7 @@
 
 ghost use Rattle.std.specs.Prelude.{◌≡◌, ◌<◌, ℕ, IfOk, slice_index};
 ghost use Rattle.om_format.specs.steps.CheckpointBytes.{checkpoint_bytes, AreWithin};
-ghost use Rattle.om_format.specs.CheckpointViews.{checkpoint_record};
+ghost use Rattle.om_format.specs.CheckpointViews.{checkpoint_record, record_of_parts};
 ghost use Rattle.om_format.specs.Checkpoints.{IsCheckpoint, SpellsCheckpoint};
 ghost use Rattle.om_format.specs.Receipts.{receipt_record, SpellsReceipt};
 ghost use Rattle.om_format.specs.steps.ReceiptBytes.{receipt_bytes, IsReceipt};
@@ -12,8 +12,10 @@ use crate::checkpoint::Checkpoint;
 use crate::checkpoint_writing::{
     put_head, put_memory, put_outputs, put_queues, put_vectors, room_for,
 };
+use crate::head::Head;
 use crate::limits::{RECEIPT_KIND, RECEIPT_VERSION};
 use crate::pages::kept_indices;
+use crate::queue::Queue;
 use crate::receipt::Receipt;
 use std::alloc::{AllocError, Global};
 
@@ -44,20 +46,27 @@ pub fn encode_receipt(alloc: Global, receipt: &Receipt) -> Result<Vec<u8>, Alloc
     receipt_bytes(alloc, receipt)
 }
 
-fn checkpoint_bytes(alloc: Global, checkpoint: &Checkpoint) -> Result<Vec<u8>, AllocError>
-    ensures bytes { IfOk result (λ v. v.items ≡ checkpoint_bytes (checkpoint_record checkpoint.now)) }
+// Writes the bytes of a checkpoint of these parts.
+fn checkpoint_bytes(
+    alloc: Global,
+    head: &Head,
+    memory: &[u8],
+    kept: &[Queue],
+    outputs: &Queue,
+) -> Result<Vec<u8>, AllocError>
+    requires { IsCheckpoint (record_of_parts head.now memory.now kept.now outputs.now) }
+    ensures bytes { IfOk result (λ v. v.items ≡ checkpoint_bytes (record_of_parts head.now memory.now kept.now outputs.now)) }
     ensures fits { IfOk result (λ v. (i : ℕ) → slice_index v.items i < 256) }
-    ensures within { IfOk result (λ _. AreWithin checkpoint.now.head) }
-    ensures lawful { IsCheckpoint (checkpoint_record checkpoint.now) }
+    ensures within { IfOk result (λ _. AreWithin head.now) }
 {
-    let memory = checkpoint.memory.as_slice();
-    let kept = kept_indices(alloc, memory)?;
-    let mut out = Vec::with_capacity(alloc, room_for(checkpoint, kept.len()))?;
-    put_head(&mut out, &checkpoint.head)?;
-    put_vectors(&mut out, &checkpoint.head)?;
-    put_memory(&mut out, checkpoint.head.made, memory, &kept)?;
-    put_queues(&mut out, &checkpoint.kept)?;
-    put_outputs(&mut out, &checkpoint.outputs)?;
+    let pages = kept_indices(alloc, memory)?;
+    let room = room_for(head.vec.n(), pages.len(), kept, outputs);
+    let mut out = Vec::with_capacity(alloc, room)?;
+    put_head(&mut out, head)?;
+    put_vectors(&mut out, head)?;
+    put_memory(&mut out, head.made, memory, &pages)?;
+    put_queues(&mut out, kept)?;
+    put_outputs(&mut out, outputs)?;
     Ok(out)
 }
 
@@ -65,5 +74,27 @@ fn checkpoint_bytes(alloc: Global, checkpoint: &Checkpoint) -> Result<Vec<u8>, A
 pub fn encode_checkpoint(alloc: Global, checkpoint: &Checkpoint) -> Result<Vec<u8>, AllocError>
     ensures { IfOk result (λ v. SpellsCheckpoint V2 (checkpoint_record checkpoint.now) v.items) }
 {
-    checkpoint_bytes(alloc, checkpoint)
+    let memory = checkpoint.memory.as_slice();
+    encode_parts(
+        alloc,
+        &checkpoint.head,
+        memory,
+        &checkpoint.kept,
+        &checkpoint.outputs,
+    )
+}
+
+/// Returns the bytes that spell a checkpoint of these parts in version 2: its head, its memory, the messages that are kept, by
+/// receiver, and the outputs. What is kept of the memory is copied once.
+pub fn encode_parts(
+    alloc: Global,
+    head: &Head,
+    memory: &[u8],
+    kept: &[Queue],
+    outputs: &Queue,
+) -> Result<Vec<u8>, AllocError>
+    requires { IsCheckpoint (record_of_parts head.now memory.now kept.now outputs.now) }
+    ensures { IfOk result (λ v. SpellsCheckpoint V2 (record_of_parts head.now memory.now kept.now outputs.now) v.items) }
+{
+    checkpoint_bytes(alloc, head, memory, kept, outputs)
 }

@@ -16,7 +16,7 @@
 pub use body::Body;
 pub use checkpoint::Checkpoint;
 pub use decoding::{decode_checkpoint, decode_receipt};
-pub use encoding::{encode_checkpoint, encode_receipt};
+pub use encoding::{encode_checkpoint, encode_parts, encode_receipt};
 pub use error::DecodeError;
 pub use head::Head;
 pub use limits::{MAX_BODY, MAX_PROCESSES_OF_VERSION_1, PAGE};

@@ -1,5 +1,0 @@
-use Rattle.om_format.proofs.CheckpointSpelling.{checkpoint_is_spelled}
-use Rattle.om_format.proofs.encoding.encode_checkpoint.Goals as goal
-
-pub returns : goal.returns
-returns c = checkpoint_is_spelled _ c.checkpoint_bytes.result c.checkpoint_bytes.ensures.fits c.checkpoint_bytes.ensures.bytes c.checkpoint_bytes.ensures.lawful c.checkpoint_bytes.ensures.within
