@@ -2,7 +2,6 @@
 
 ghost use Rattle.std.specs.Prelude.{◌≡◌, ◌+◌, ◌≤◌, ◌++◌, ℕ, IfOk, IsErrOf, IsSome, None, OnErr, OnOk, Some, drop, length, map, slice_get, take, vec_capacity, vec_len};
 ghost use Rattle.std.specs.FinMap.{get};
-ghost use Rattle.om_format.specs.CheckpointViews.{checkpoint_record};
 ghost use Rattle.om_format.specs.Queues.{queue_record};
 ghost use Rattle.om_stable.specs.Calls.{IsCleanCall, UsesStore};
 ghost use Rattle.om_stable.specs.Content.{IsFree, IsTaken, bytes_of};
@@ -10,7 +9,7 @@ ghost use Rattle.om_process.specs.Core.{LoggedRecord};
 ghost use Rattle.om_process.specs.Stored.{IsReceiptAt};
 ghost use Rattle.om_process.specs.Stores.{HasGainedCheckpoint, HasGainedFirst, HasGainedLog, IsOf, checkpoint_row, checkpointed, first_logged, flushed, flushed_first, log_row};
 ghost use Rattle.om_process.specs.Flights.{IsCheckpointOf};
-ghost use Rattle.om_process.specs.steps.Pieces.{SpellLog};
+ghost use Rattle.om_process.specs.steps.Pieces.{IsSpelledNow, SpellLog};
 ghost use Rattle.om_process.specs.steps.Views.{logged_record};
 
 use crate::flight::Spelled;
@@ -18,7 +17,7 @@ use crate::log::Logged;
 use crate::proc_core::ProcCore;
 use crate::queues::Messages;
 use crate::row::PendingRow;
-use om_format::{Checkpoint, Head, MemoryBytes, Queue, encode_checkpoint, encode_receipt};
+use om_format::{Head, Queue, encode_parts, encode_receipt};
 use om_stable::{Stable, StoreError};
 use std::alloc::{AllocError, Global};
 
@@ -123,7 +122,7 @@ impl ProcCore {
             → OnErr result (S.content store.new ≡ S.content store.old) }
         ensures used { UsesStore S.failed S.is_clean S.IsSound store.old (IsErrOf result StoreError.Fault) store.new }
     {
-        let bytes = encode_checkpoint(alloc, &self.picture(alloc)?)?;
+        let bytes = self.encoded(alloc)?;
         store.put_checkpoint(alloc, self.interval, &bytes)
     }
 
@@ -131,7 +130,7 @@ impl ProcCore {
     pub(crate) fn spelled_now(&self, alloc: Global) -> Result<Spelled, AllocError>
         ensures { IfOk result (λ s. IsCheckpointOf self.now s) }
     {
-        let bytes = encode_checkpoint(alloc, &self.picture(alloc)?)?;
+        let bytes = self.encoded(alloc)?;
         Ok(Spelled {
             row: self.row(),
             bytes,
@@ -150,11 +149,10 @@ impl ProcCore {
         }
     }
 
-    // Returns the process as a checkpoint.
-    fn picture(&self, alloc: Global) -> Result<Checkpoint, AllocError>
-        ensures { IfOk result (λ c. IsOf self.now.own self.now.now (checkpoint_record c)) }
+    // Spells the process as a checkpoint of now, from its memory where that lies.
+    fn encoded(&self, alloc: Global) -> Result<Vec<u8>, AllocError>
+        ensures { IfOk result (λ bytes. IsSpelledNow self.now bytes.items) }
     {
-        let memory = Vec::from_slice(alloc, self.machine.memory())?;
         let kept = queues_of(alloc, &self.outbox)?;
         let outputs = self.outputs.queue(alloc)?;
         let head = Head {
@@ -169,12 +167,7 @@ impl ProcCore {
             sent: self.sent,
             made: self.made,
         };
-        Ok(Checkpoint {
-            head,
-            memory: MemoryBytes::from_vec(memory),
-            kept,
-            outputs,
-        })
+        encode_parts(alloc, &head, self.machine.memory(), &kept, &outputs)
     }
 }
 

@@ -6,13 +6,16 @@ use Rattle.om_machine.specs.State.{State}
 use Rattle.om_format.specs.declared.message.Message.{Message}
 use Rattle.om_format.specs.declared.queue.QueueEntry.{QueueEntry}
 use Rattle.om_format.specs.Queues.{QueueRecord}
+use Rattle.om_format.specs.Checkpoints.{CheckpointRecord, SpellsCheckpoint}
 use Rattle.om_format.specs.Receipts.{ReceiptRecord, SpellsReceipt}
+use Rattle.om_format.specs.declared.version.Version.TheVariants.{V2}
 use Rattle.om_process.specs.Process.{Process, Received, empty_queue}
 use Rattle.om_process.specs.Turns.{Leads, Turns}
 use Rattle.om_process.specs.Parts.{IsTrimmedQueue}
 use Rattle.om_process.specs.Replays.{received_of}
 use Rattle.om_process.specs.Core.{CoreState, LoggedRecord}
 use Rattle.om_process.specs.Frames.{message_of}
+use Rattle.om_process.specs.Stores.{IsOf}
 
 -- the process with another machine
 abbrev pub with_machine : Process → State → Process
@@ -51,6 +54,10 @@ KeepQueues whole part = AllZip IsTrimmedQueue whole part
 -- the bytes spell the receipts of a log, one by one
 abbrev pub SpellLog : List LoggedRecord → List (List ℕ) → Type 0
 SpellLog log bytes = AllZip (λ l b. SpellsReceipt l.receipt b) log bytes
+
+-- the bytes spell the process of the core as the checkpoint of its interval
+abbrev pub IsSpelledNow : CoreState → List ℕ → Type 0
+IsSpelledNow c bytes = (r : CheckpointRecord) × IsOf c.own c.now r × SpellsCheckpoint V2 r bytes
 
 -- an entry, if there is one, as a message on its way
 abbrev pub frame_of : CoreState → ℕ → ℕ → Option QueueEntry → Option Message
