@@ -478,19 +478,53 @@ impl<'a, K: Naming> Worker<'a, K> {
         let ran = node.run(alloc, self.config.fuel)?;
         self.diary.ran(rt, node.core(), ran)?;
         self.has_ended = ran.status.has_ended();
-        if ran.steps > 0 {
-            self.change();
-        }
-        if ran.steps > 0 || self.links.is_behind() {
-            self.links.put_all(rt, alloc, node.core())?;
-        }
+        self.send(rt, alloc, node, ran.steps > 0)?;
         if ran.status.has_ended() {
-            self.recall(rt, node)?;
-            node.flush(alloc)?;
-            self.diary.stored_all();
-            self.handed.receipts = node.core().interval();
+            self.store_all(rt, alloc, node)?;
         }
         Ok(ran.status)
+    }
+
+    // Puts what a process sent that went on, and what is still to be put.
+    fn send<J: Series, S: Stable, R: Wait>(
+        &mut self,
+        rt: &R,
+        alloc: Global,
+        node: &Node<'a, J, S>,
+        went_on: bool,
+    ) -> Result<(), WorkerFault>
+        requires own { node.now.member.own ≡ self.old.links.ends.own }
+        requires size { node.now.member.n ≡ K.cell.n }
+        ensures same { self.new.links.ends ≡ self.old.links.ends }
+    {
+        if went_on {
+            self.change();
+        }
+        if went_on || self.links.is_behind() {
+            self.links.put_all(rt, alloc, node.core())?;
+        }
+        Ok(())
+    }
+
+    // Stores all that a process received that has ended.
+    #[inline(never)]
+    fn store_all<J: Series, S: Stable, R: Wait>(
+        &mut self,
+        rt: &R,
+        alloc: Global,
+        node: &mut Node<'a, J, S>,
+    ) -> Result<(), WorkerFault>
+        ensures same { self.new.links.ends ≡ self.old.links.ends }
+        ensures member { node.new.member ≡ node.old.member }
+        ensures now { OnOk result (node.new.core.now ≡ node.old.core.now) }
+        ensures log { OnOk result (node.new.core.log ≡ []) }
+        ensures landed { OnOk result (node.new.away ≡ false) }
+    {
+        self.recall(rt, node)?;
+        node.flush(alloc)?;
+        self.diary.stored_all();
+        self.handed.receipts = node.core().interval();
+        Ok(())
     }
 
     // Hands in what the process has, where there is something to hand in or to learn, and says how the manager stands.
@@ -515,6 +549,26 @@ impl<'a, K: Naming> Worker<'a, K> {
         if !self.manager_link.is_due(node.core(), ended, called) {
             return Ok(ManagerPhase::Closed);
         }
+        let phase = self.meet(rt, alloc, node, status)?;
+        Ok(phase)
+    }
+
+    // Hands in what the process has, and says how the manager stands. What need not be kept any longer goes.
+    #[inline(never)]
+    fn meet<J: Series, S: Ledger, R: Wait>(
+        &mut self,
+        rt: &R,
+        alloc: Global,
+        node: &mut Node<'a, J, S>,
+        status: Status,
+    ) -> Result<ManagerPhase, WorkerFault>
+        requires { IsProcessOf S.is_clean K.OverClean K.programs K.cell.n self.old.links.ends.own node.old.member }
+        ensures same { self.new.links.ends ≡ self.old.links.ends }
+        ensures member { node.new.member ≡ node.old.member }
+        ensures reported { IfOk result
+            (HasReported K.cell.n self.old.manager_link.pid self.old.manager_link.round status node.old.core) }
+    {
+        let ended = status.has_ended();
         let is_patient = self.patience.is_patient();
         let (phase, limits) = self
             .manager_link
