@@ -11,7 +11,7 @@ ghost use Rattle.om_node.specs.Nodes.{AreAlwaysClean};
 ghost use Rattle.om_runner.specs.steps.Starting.{CanStart, IsNamedFor};
 
 use crate::main_task::MainTask;
-use om_board::{Inbox, Naming, Pass};
+use om_board::{Bell, Inbox, Naming, Pass};
 use om_interval::Pid;
 use om_node::{FlightChannel, SentStore, flight_channel, write_all};
 use om_process::Image;
@@ -106,15 +106,38 @@ fn started_channel<
     if !cluster.opener.is_slow() {
         return Some(None);
     }
-    let (rt, alloc) = (cluster.rt, cluster.alloc);
     let bell = cluster.bells.get(own.index())?;
+    let channel = open_channel::<E, K, J, R, G, O>(scope, cluster, bell, opened)?;
+    Some(Some(channel))
+}
+
+// Starts a thread of the scope that writes a store and rings this bell, and the way to it; None where it could not be made.
+fn open_channel<
+    's,
+    E,
+    K: Naming + Send + Sync,
+    J: Series + Send + Sync + 's,
+    R: Threads + Wait + Clock + Sync,
+    G: Gate + Sync,
+    O: Opener<R> + Sync,
+>(
+    scope: &Scope<'s, E>,
+    cluster: &'s Cluster<'s, K, R, G, O>,
+    bell: &'s Bell,
+    opened: Opened<SentStore<O::Store>>,
+) -> Option<FlightChannel<J, O::Store>>
+    requires { opened.seen.book ≡ J.book }
+{
+    let (rt, alloc) = (cluster.rt, cluster.alloc);
     let Ok((channel, far)) = flight_channel::<J, O::Store>(alloc, opened) else {
         return None;
     };
-    let writer = scope.spawn(move || write_all(rt, alloc, far, bell));
-    match writer {
-        Ok(_) => Some(Some(channel)),
-        Err(_) => None,
+    match scope.spawn(move || write_all(rt, alloc, far, bell)) {
+        Ok(_) => Some(channel),
+        Err(_) => {
+            drop(channel);
+            None
+        }
     }
 }
 
