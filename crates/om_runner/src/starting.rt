@@ -1,6 +1,7 @@
 //! The threads of a cluster are started, and joined.
 
 ghost use Rattle.std.specs.Prelude.{◌≡◌, ◌<◌, ◌≤◌, ℕ, All, IfErr, IfOk, IfSome, Some, slice_get, slice_index_or, vec_capacity, vec_len};
+ghost use Rattle.om_interval.specs.declared.pid.TheConstants.{MAX_PROCESSES};
 ghost use Rattle.om_process.specs.Images.{program_of};
 ghost use Rattle.om_process.specs.declared.image.Image.{Image};
 ghost use Rattle.om_report.specs.Faults.{IsFaultOf};
@@ -9,6 +10,8 @@ ghost use Rattle.om_runner.specs.steps.Ends.{AreEndsOf, AreOwnEnds, IsPromised};
 ghost use Rattle.om_worker.specs.Ends.{IsEndOf, IsOwnEnd};
 ghost use Rattle.om_node.specs.Nodes.{AreAlwaysClean};
 ghost use Rattle.om_runner.specs.steps.Starting.{CanStart, IsNamedFor};
+ghost use Rattle.om_worker_parts.specs.Network.{IsNetwork};
+ghost use Rattle.om_worker_parts.specs.Wiring.{HasEnds};
 
 use crate::main_task::MainTask;
 use om_board::{Bell, Inbox, Naming, Pass};
@@ -181,6 +184,31 @@ fn start_apart<
     )
 }
 
+// Makes the ends of a process.
+fn links_of<'s, K: Naming, R, G, O>(
+    cluster: &'s Cluster<'s, K, R, G, O>,
+    own: usize,
+    ends: Ends,
+) -> Links<'s>
+    requires few { K.cell.n ≤ MAX_PROCESSES }
+    requires own { own < K.cell.n }
+    requires network { IsNetwork K.cell.n cluster.now.inboxes.now }
+    requires ends { HasEnds K.cell.n cluster.now.inboxes.now own ends }
+    ensures own { result.ends.own ≡ own }
+    ensures n { result.ends.n ≡ K.cell.n }
+    ensures lines { result.ends.lines ≡ cluster.entry.now.inboxes.now }
+{
+    let Ends { puts, takes } = ends;
+    Links::new(
+        Pid::at(own),
+        cluster.inboxes,
+        puts,
+        takes,
+        cluster.bells,
+        cluster.received,
+    )
+}
+
 // Runs all processes, each on a thread of its own; None where a thread could not be made, and then all are stopped.
 fn start_all<
     's,
@@ -207,19 +235,11 @@ fn start_all<
         (slice_index_or v.items i h).promise) }
 {
     for one in ends {
-        let Ends { puts, takes } = one;
         let Some(pass) = passes.pop() else {
             unreachable!()
         };
         let own = handles.len();
-        let links = Links::new(
-            Pid::at(own),
-            cluster.inboxes,
-            puts,
-            takes,
-            cluster.bells,
-            cluster.received,
-        );
+        let links = links_of(cluster, own, one);
         let image = &cluster.config.images[own];
         let opened = Opened::new();
         let Some(handle) = start_apart::<E, K, Brand, R, G, O>(
