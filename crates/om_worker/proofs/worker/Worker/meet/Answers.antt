@@ -1,4 +1,4 @@
-use Rattle.std.proofs.Common.{ℕ, ap, ◌∙◌, length, refl, subst, sym}
+use Rattle.std.proofs.Common.{◌≡◌, ℕ, ap, ◌∙◌, length, refl, subst, sym}
 use Rattle.std.specs.Prelude.{IfSome}
 use Rattle.om_node.specs.Nodes.{Member}
 use Rattle.om_worker_parts.proofs.ActLemmas.{still_process}
