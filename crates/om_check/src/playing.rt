@@ -82,37 +82,20 @@ fn played(
     requires few { length images.now ≤ MAX_PROCESSES }
     ensures { IfOk result (λ end. IsWhole (map program_of images.now) end.0) }
 {
+    let n = images.len();
     let world = begin(alloc, images)?;
     let mut player = Player {
-        stage: Stage::new(alloc, world, images.len())?,
+        stage: Stage::new(alloc, world, n)?,
         witnesses,
         receipts: 0,
         keeps,
         events: Vec::new(alloc),
     };
-    match play_through(&mut player, images) {
-        Ok(()) => {
-            let Player { stage, events, .. } = player;
-            let Stage { world, .. } = stage;
-            Ok((world, events))
-        }
-        Err(fault) => {
-            drop(player);
-            Err(fault)
-        }
-    }
-}
-
-// Plays to the end.
-fn play_through(player: &mut Player, images: &[Image]) -> Result<(), PlayFault>
-    requires few { length images.now ≤ MAX_PROCESSES }
-    requires way { IsUnderWay (map program_of images.now) player.old.stage.world }
-    ensures { OnOk result (IsWhole (map program_of images.now) player.new.stage.world) }
-{
-    let n = images.len();
     player.play(n)?;
-    all_done(&player.stage.world, n)?;
-    Ok(())
+    let Player { stage, events, .. } = player;
+    let Stage { world, .. } = stage;
+    all_done(&world, n)?;
+    Ok((world, events))
 }
 
 /// Plays the run without failures of these images in which each process receives from the senders that its witness

@@ -1,6 +1,6 @@
 //! A process, its breakpoints, and what packets ask of it.
 
-ghost use Rattle.std.specs.Prelude.{◌≡◌, IfOk, OnErr, OnOk, [], false, string_bytes};
+ghost use Rattle.std.specs.Prelude.{◌≡◌, IfOk, OnErr, OnOk, [], false};
 ghost use Rattle.std.specs.List.{list_any};
 ghost use Rattle.om_requests.specs.Requests.{request_of};
 ghost use Rattle.om_debug.specs.Stops.{IsMoved, stop_text, with_timeline};
@@ -73,17 +73,6 @@ fn bytes(alloc: Global, text: &str) -> Result<Vec<u8>, AllocError>
     Vec::from_slice(alloc, text.as_bytes())
 }
 
-// Makes the name of a process, and the list of its one thread.
-fn names_of(alloc: Global, name: &str) -> Result<(String, String), AllocError>
-    ensures { IfOk result (λ made. string_bytes made.0 ≡ name.now) }
-{
-    let threads = format!(in alloc;
-        "<?xml version=\"1.0\"?><threads><thread id=\"1\" name=\"{name}\"></thread></threads>"
-    )?;
-    let name = String::from_str(alloc, name)?;
-    Ok((name, threads))
-}
-
 impl Debugger {
     /// Shows a process of this name, which stands without breakpoints where the timeline does. Refused where memory ran out.
     pub fn new(alloc: Global, timeline: Timeline, name: &str) -> Result<Debugger, AllocError>
@@ -92,20 +81,17 @@ impl Debugger {
         ensures watches { IfOk result (λ d. d.watches ≡ []) }
         ensures name { IfOk result (λ d. d.name ≡ name.now) }
     {
-        match names_of(alloc, name) {
-            Ok((name, threads)) => Ok(Debugger {
-                alloc,
-                timeline,
-                breaks: Vec::new(alloc),
-                watches: Vec::new(alloc),
-                name,
-                threads,
-            }),
-            Err(error) => {
-                drop(timeline);
-                Err(error)
-            }
-        }
+        let threads = format!(in alloc;
+            "<?xml version=\"1.0\"?><threads><thread id=\"1\" name=\"{name}\"></thread></threads>"
+        )?;
+        Ok(Debugger {
+            alloc,
+            timeline,
+            breaks: Vec::new(alloc),
+            watches: Vec::new(alloc),
+            name: String::from_str(alloc, name)?,
+            threads,
+        })
     }
 
     /// Answers a packet of these bytes: what is asked, or where the process stands after it moved. While it goes on the reader is asked

@@ -1,3 +1,4 @@
 mod ReportLemmas
 mod SettleLemmas
 mod FaultLemmas
+mod PartLemmas

@@ -1,9 +1,9 @@
 //! What workers bring back, and which fault is told of all.
 
-ghost use Rattle.std.specs.Prelude.{◌≡◌, ◌≤◌, ◌↔◌, ◌⊎◌, IfErr, IfNone, IfOk, IfSome, IsTrue, OnOk, length, map, vec_len};
+ghost use Rattle.std.specs.Prelude.{◌≡◌, ◌≤◌, ◌↔◌, ◌⊎◌, ◌+◌, ◌++◌, ◌∷◌, [], ℕ, IfErr, IfNone, IfOk, IfSome, IsTrue, OnOk, length, map, vec_len};
 ghost use Rattle.om_report.specs.Faults.{IsFaultOf};
 ghost use Rattle.om_report.specs.declared.fault.RunFault.TheVariants.{Memory};
-ghost use Rattle.om_runner.specs.steps.Ends.{AreBelow, AreEndsOf, AreOwnEnds, AreParts, IsLeastFault, IsOut, IsWell};
+ghost use Rattle.om_runner.specs.steps.Ends.{AreBelow, AreEndsOf, AreOwnEnds, AreParts, HasRoom, IsLeastFault, IsOut, IsWell};
 ghost use Rattle.om_worker.specs.Ends.{IsGiven};
 ghost use Rattle.om_worker_parts.specs.Network.{IsNetwork};
 
@@ -27,6 +27,72 @@ pub(crate) struct Parts<K: Naming, S: Stable> {
     // By receiver, and there by sender.
     pub(crate) takes: Vec<Vec<TakePass>>,
     pub(crate) witnesses: Vec<Witness>,
+}
+
+impl<K: Naming, S: Stable> Parts<K, S> {
+    // Makes parts of nothing, with room for what so many workers bring back.
+    fn with_room(alloc: Global, n: usize) -> Result<Parts<K, S>, AllocError>
+        ensures statuses { IfOk result (λ parts. parts.statuses.items ≡ []) }
+        ensures harvests { IfOk result (λ parts. parts.harvests.items ≡ []) }
+        ensures stores { IfOk result (λ parts. parts.stores.items ≡ []) }
+        ensures puts { IfOk result (λ parts. parts.puts.items ≡ []) }
+        ensures takes { IfOk result (λ parts. parts.takes.items ≡ []) }
+        ensures room { IfOk result (λ parts. HasRoom n parts) }
+    {
+        let mut parts = Parts {
+            statuses: Vec::new(alloc),
+            harvests: Vec::new(alloc),
+            stores: Vec::new(alloc),
+            puts: Vec::new(alloc),
+            takes: Vec::new(alloc),
+            witnesses: Vec::new(alloc),
+        };
+        parts.reserve(n)?;
+        Ok(parts)
+    }
+
+    // Makes room for what so many more workers bring back.
+    fn reserve(&mut self, n: usize) -> Result<(), AllocError>
+        ensures statuses { self.new.statuses.items ≡ self.old.statuses.items }
+        ensures harvests { self.new.harvests.items ≡ self.old.harvests.items }
+        ensures stores { self.new.stores.items ≡ self.old.stores.items }
+        ensures puts { self.new.puts.items ≡ self.old.puts.items }
+        ensures takes { self.new.takes.items ≡ self.old.takes.items }
+        ensures room { OnOk result (HasRoom n self.new) }
+    {
+        self.statuses.try_reserve(n)?;
+        self.harvests.try_reserve(n)?;
+        self.stores.try_reserve(n)?;
+        self.puts.try_reserve(n)?;
+        self.takes.try_reserve(n)?;
+        self.witnesses.try_reserve(n)?;
+        Ok(())
+    }
+
+    // Adds what a worker brought back.
+    fn push(&mut self, one: Finished<K, S>)
+        requires { HasRoom 1 self.old }
+        ensures statuses { self.new.statuses.items ≡ self.old.statuses.items ++ one.status ∷ [] }
+        ensures harvests { self.new.harvests.items ≡ self.old.harvests.items ++ one.harvest ∷ [] }
+        ensures stores { self.new.stores.items ≡ self.old.stores.items ++ one.store ∷ [] }
+        ensures puts { self.new.puts.items ≡ self.old.puts.items ++ one.ends.puts ∷ [] }
+        ensures takes { self.new.takes.items ≡ self.old.takes.items ++ one.ends.takes ∷ [] }
+        ensures room { (k : ℕ) → HasRoom (k + 1) self.old → HasRoom k self.new }
+    {
+        let Finished {
+            status,
+            harvest,
+            store,
+            ends,
+            witness,
+        } = one;
+        self.statuses.push_reserved(status);
+        self.harvests.push_reserved(harvest);
+        self.stores.push_reserved(store);
+        self.puts.push_reserved(ends.puts);
+        self.takes.push_reserved(ends.takes);
+        self.witnesses.push_reserved(witness);
+    }
 }
 
 // Returns whether the worker's turns were out.
@@ -97,35 +163,11 @@ fn parted<K: Naming, S: Stable>(
     ensures takes { IfOk result (λ parts. parts.takes.items ≡ map (λ f. f.ends.takes) all.items) }
     ensures harvests { IfOk result (λ parts. parts.harvests.items ≡ map (λ f. f.harvest) all.items) }
 {
-    let mut statuses = Vec::with_capacity(alloc, all.len())?;
-    let mut stores = Vec::with_capacity(alloc, all.len())?;
-    let mut puts = Vec::with_capacity(alloc, all.len())?;
-    let mut takes = Vec::with_capacity(alloc, all.len())?;
-    let mut witnesses = Vec::with_capacity(alloc, all.len())?;
-    let mut harvests = Vec::with_capacity(alloc, all.len())?;
+    let mut parts = Parts::with_room(alloc, all.len())?;
     for one in all {
-        let Finished {
-            status,
-            harvest,
-            store,
-            ends,
-            witness,
-        } = one;
-        statuses.push_reserved(status);
-        stores.push_reserved(store);
-        puts.push_reserved(ends.puts);
-        takes.push_reserved(ends.takes);
-        witnesses.push_reserved(witness);
-        harvests.push_reserved(harvest);
+        parts.push(one);
     }
-    Ok(Parts {
-        statuses,
-        harvests,
-        stores,
-        puts,
-        takes,
-        witnesses,
-    })
+    Ok(parts)
 }
 
 // Returns what workers brought back, where each ended well.

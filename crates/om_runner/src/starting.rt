@@ -1,6 +1,7 @@
 //! The threads of a cluster are started, and joined.
 
 ghost use Rattle.std.specs.Prelude.{◌≡◌, ◌<◌, ◌≤◌, ℕ, All, IfErr, IfOk, IfSome, Some, slice_get, slice_index_or, vec_capacity, vec_len};
+ghost use Rattle.om_interval.specs.declared.pid.TheConstants.{MAX_PROCESSES};
 ghost use Rattle.om_process.specs.Images.{program_of};
 ghost use Rattle.om_process.specs.declared.image.Image.{Image};
 ghost use Rattle.om_report.specs.Faults.{IsFaultOf};
@@ -9,9 +10,11 @@ ghost use Rattle.om_runner.specs.steps.Ends.{AreEndsOf, AreOwnEnds, IsPromised};
 ghost use Rattle.om_worker.specs.Ends.{IsEndOf, IsOwnEnd};
 ghost use Rattle.om_node.specs.Nodes.{AreAlwaysClean};
 ghost use Rattle.om_runner.specs.steps.Starting.{CanStart, IsNamedFor};
+ghost use Rattle.om_worker_parts.specs.Network.{IsNetwork};
+ghost use Rattle.om_worker_parts.specs.Wiring.{HasEnds};
 
 use crate::main_task::MainTask;
-use om_board::{Inbox, Naming, Pass};
+use om_board::{Bell, Inbox, Naming, Pass};
 use om_interval::Pid;
 use om_node::{FlightChannel, SentStore, flight_channel, write_all};
 use om_process::Image;
@@ -106,15 +109,38 @@ fn started_channel<
     if !cluster.opener.is_slow() {
         return Some(None);
     }
-    let (rt, alloc) = (cluster.rt, cluster.alloc);
     let bell = cluster.bells.get(own.index())?;
+    let channel = open_channel::<E, K, J, R, G, O>(scope, cluster, bell, opened)?;
+    Some(Some(channel))
+}
+
+// Starts a thread of the scope that writes a store and rings this bell, and the way to it; None where it could not be made.
+fn open_channel<
+    's,
+    E,
+    K: Naming + Send + Sync,
+    J: Series + Send + Sync + 's,
+    R: Threads + Wait + Clock + Sync,
+    G: Gate + Sync,
+    O: Opener<R> + Sync,
+>(
+    scope: &Scope<'s, E>,
+    cluster: &'s Cluster<'s, K, R, G, O>,
+    bell: &'s Bell,
+    opened: Opened<SentStore<O::Store>>,
+) -> Option<FlightChannel<J, O::Store>>
+    requires { opened.seen.book ≡ J.book }
+{
+    let (rt, alloc) = (cluster.rt, cluster.alloc);
     let Ok((channel, far)) = flight_channel::<J, O::Store>(alloc, opened) else {
         return None;
     };
-    let writer = scope.spawn(move || write_all(rt, alloc, far, bell));
-    match writer {
-        Ok(_) => Some(Some(channel)),
-        Err(_) => None,
+    match scope.spawn(move || write_all(rt, alloc, far, bell)) {
+        Ok(_) => Some(channel),
+        Err(_) => {
+            drop(channel);
+            None
+        }
     }
 }
 
@@ -158,6 +184,31 @@ fn start_apart<
     )
 }
 
+// Makes the ends of a process.
+fn links_of<'s, K: Naming, R, G, O>(
+    cluster: &'s Cluster<'s, K, R, G, O>,
+    own: usize,
+    ends: Ends,
+) -> Links<'s>
+    requires few { K.cell.n ≤ MAX_PROCESSES }
+    requires own { own < K.cell.n }
+    requires network { IsNetwork K.cell.n cluster.now.inboxes.now }
+    requires ends { HasEnds K.cell.n cluster.now.inboxes.now own ends }
+    ensures own { result.ends.own ≡ own }
+    ensures n { result.ends.n ≡ K.cell.n }
+    ensures lines { result.ends.lines ≡ cluster.entry.now.inboxes.now }
+{
+    let Ends { puts, takes } = ends;
+    Links::new(
+        Pid::at(own),
+        cluster.inboxes,
+        puts,
+        takes,
+        cluster.bells,
+        cluster.received,
+    )
+}
+
 // Runs all processes, each on a thread of its own; None where a thread could not be made, and then all are stopped.
 fn start_all<
     's,
@@ -184,19 +235,11 @@ fn start_all<
         (slice_index_or v.items i h).promise) }
 {
     for one in ends {
-        let Ends { puts, takes } = one;
         let Some(pass) = passes.pop() else {
             unreachable!()
         };
         let own = handles.len();
-        let links = Links::new(
-            Pid::at(own),
-            cluster.inboxes,
-            puts,
-            takes,
-            cluster.bells,
-            cluster.received,
-        );
+        let links = links_of(cluster, own, one);
         let image = &cluster.config.images[own];
         let opened = Opened::new();
         let Some(handle) = start_apart::<E, K, Brand, R, G, O>(

@@ -114,6 +114,7 @@ fn turns_until_over<'a, K: Naming, J: Series, S: Ledger, R: Wait + Clock>(
     let mut state = state;
     let mut left = turns;
     while left > 0 {
+        worker.allow(left);
         left -= 1;
         if stop.load(SeqCst) {
             break;

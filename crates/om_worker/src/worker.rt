@@ -34,6 +34,9 @@ use std::time::Clock;
 // What is left of a worker's turns where all wait, whatever it is.
 const ALL_TURNS: u64 = u64::MAX;
 
+// How many turns a process takes at most before it is let go of, and its worker looks whether all are to stop.
+const ROW: u64 = 16;
+
 // How many receipts of a log are stored where all are.
 const ALL_RECEIPTS: usize = usize::MAX;
 
@@ -69,6 +72,8 @@ pub(crate) struct Worker<'a, K: Naming> {
     is_over: bool,
     // How many turns the last one counts as beside itself.
     extra: u64,
+    // How many turns are left to the worker, with the one that it takes.
+    left: u64,
     ghost linked: { links.ends.own ≡ manager_link.pid },
     ghost many: { links.ends.n ≡ K.cell.n },
 }
@@ -142,6 +147,7 @@ impl<'a, K: Naming> Worker<'a, K> {
             has_ended: false,
             is_over: false,
             extra: 0,
+            left: 0,
         }
     }
 
@@ -192,6 +198,13 @@ impl<'a, K: Naming> Worker<'a, K> {
         ensures { result ≡ self.now.extra }
     {
         self.extra
+    }
+
+    // Has the next turn count as no more than so many.
+    pub(crate) fn allow(&mut self, left: u64)
+        ensures { self.new.links.ends ≡ self.old.links.ends }
+    {
+        self.left = left;
     }
 
     // Counts the process, which came up in this round, and wakes the others where it was the last. It is the last act of coming up,
@@ -344,7 +357,7 @@ impl<'a, K: Naming> Worker<'a, K> {
             return Ok((WorkerState::Up(node), pass));
         }
         let mut node = node;
-        match self.step(rt, alloc, &mut node) {
+        match self.steps(rt, alloc, &mut node) {
             Ok(turn_outcome) => {
                 let mut pass = pass;
                 self.tell_end(rt, node.core(), &mut pass);
@@ -355,6 +368,39 @@ impl<'a, K: Naming> Worker<'a, K> {
                 Err(worker_fault)
             }
         }
+    }
+
+    // Takes turns of a process that is up, one behind the other, while something happens in each: to let go of a process and to take it
+    // up again costs as much as a tenth of a message.
+    #[inline(never)]
+    fn steps<J: Series, S: Ledger, R: Wait + Clock>(
+        &mut self,
+        rt: &R,
+        alloc: Global,
+        node: &mut Node<'a, J, S>,
+    ) -> Result<TurnOutcome, WorkerFault>
+        requires { IsProcessOf S.is_clean K.OverClean K.programs K.cell.n self.old.links.ends.own node.old.member }
+        ensures same { self.new.links.ends ≡ self.old.links.ends }
+        ensures member { node.new.member ≡ node.old.member }
+        ensures landed { IfOk result (λ turn_outcome. IsLandedAt turn_outcome node.new) }
+    {
+        let more = self.left.min(ROW).saturating_sub(1);
+        for turns in 0..more {
+            let turn_outcome = self.step(rt, alloc, node)?;
+            if !matches!(turn_outcome, TurnOutcome::Up) || !self.may_go_on() {
+                self.extra = self.extra.saturating_add(turns);
+                return Ok(turn_outcome);
+            }
+        }
+        let last = self.step(rt, alloc, node)?;
+        self.extra = self.extra.saturating_add(more);
+        Ok(last)
+    }
+
+    // Returns whether the next turn of a process that is up may follow at once: something happened in the last one, the process has
+    // not ended, of which others are told between turns, and nobody watches it turn by turn.
+    fn may_go_on(&self) -> bool {
+        self.extra == 0 && self.idle.turns == 0 && !self.has_ended && self.watch.is_none()
     }
 
     // Takes a turn of a process that is up and goes on, or leaves: then its store is here.
@@ -432,19 +478,53 @@ impl<'a, K: Naming> Worker<'a, K> {
         let ran = node.run(alloc, self.config.fuel)?;
         self.diary.ran(rt, node.core(), ran)?;
         self.has_ended = ran.status.has_ended();
-        if ran.steps > 0 {
-            self.change();
-        }
-        if ran.steps > 0 || self.links.is_behind() {
-            self.links.put_all(rt, alloc, node.core())?;
-        }
+        self.send(rt, alloc, node, ran.steps > 0)?;
         if ran.status.has_ended() {
-            self.recall(rt, node)?;
-            node.flush(alloc)?;
-            self.diary.stored_all();
-            self.handed.receipts = node.core().interval();
+            self.store_all(rt, alloc, node)?;
         }
         Ok(ran.status)
+    }
+
+    // Puts what a process sent that went on, and what is still to be put.
+    fn send<J: Series, S: Stable, R: Wait>(
+        &mut self,
+        rt: &R,
+        alloc: Global,
+        node: &Node<'a, J, S>,
+        went_on: bool,
+    ) -> Result<(), WorkerFault>
+        requires own { node.now.member.own ≡ self.old.links.ends.own }
+        requires size { node.now.member.n ≡ K.cell.n }
+        ensures same { self.new.links.ends ≡ self.old.links.ends }
+    {
+        if went_on {
+            self.change();
+        }
+        if went_on || self.links.is_behind() {
+            self.links.put_all(rt, alloc, node.core())?;
+        }
+        Ok(())
+    }
+
+    // Stores all that a process received that has ended.
+    #[inline(never)]
+    fn store_all<J: Series, S: Stable, R: Wait>(
+        &mut self,
+        rt: &R,
+        alloc: Global,
+        node: &mut Node<'a, J, S>,
+    ) -> Result<(), WorkerFault>
+        ensures same { self.new.links.ends ≡ self.old.links.ends }
+        ensures member { node.new.member ≡ node.old.member }
+        ensures now { OnOk result (node.new.core.now ≡ node.old.core.now) }
+        ensures log { OnOk result (node.new.core.log ≡ []) }
+        ensures landed { OnOk result (node.new.away ≡ false) }
+    {
+        self.recall(rt, node)?;
+        node.flush(alloc)?;
+        self.diary.stored_all();
+        self.handed.receipts = node.core().interval();
+        Ok(())
     }
 
     // Hands in what the process has, where there is something to hand in or to learn, and says how the manager stands.
@@ -469,6 +549,26 @@ impl<'a, K: Naming> Worker<'a, K> {
         if !self.manager_link.is_due(node.core(), ended, called) {
             return Ok(ManagerPhase::Closed);
         }
+        let phase = self.meet(rt, alloc, node, status)?;
+        Ok(phase)
+    }
+
+    // Hands in what the process has, and says how the manager stands. What need not be kept any longer goes.
+    #[inline(never)]
+    fn meet<J: Series, S: Ledger, R: Wait>(
+        &mut self,
+        rt: &R,
+        alloc: Global,
+        node: &mut Node<'a, J, S>,
+        status: Status,
+    ) -> Result<ManagerPhase, WorkerFault>
+        requires { IsProcessOf S.is_clean K.OverClean K.programs K.cell.n self.old.links.ends.own node.old.member }
+        ensures same { self.new.links.ends ≡ self.old.links.ends }
+        ensures member { node.new.member ≡ node.old.member }
+        ensures reported { IfOk result
+            (HasReported K.cell.n self.old.manager_link.pid self.old.manager_link.round status node.old.core) }
+    {
+        let ended = status.has_ended();
         let is_patient = self.patience.is_patient();
         let (phase, limits) = self
             .manager_link

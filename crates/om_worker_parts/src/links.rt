@@ -104,6 +104,8 @@ pub struct Links<'a> {
     is_behind: bool,
     // By sender, how many messages were taken since its worker was woken for room.
     since: [u32; MAX_PROCESSES],
+    // By sender, how many messages were taken, modulo 2^32.
+    counts: [u32; MAX_PROCESSES],
 }
 
 impl<'a> Model for Links<'a> {
@@ -129,6 +131,14 @@ fn received_of(received: &[Received], from: Pid) -> [u32; MAX_PROCESSES] {
         counts[to] = receiver.from(from);
     }
     counts
+}
+
+// Returns whether a process has taken all that a sender told of, which are so many messages, modulo 2^32.
+fn has_all(received: &[Received], own: Pid, from: usize, count: u32) -> bool {
+    match received.get(own.index()) {
+        Some(receiver) => receiver.is_posted(from, count),
+        None => false,
+    }
 }
 
 // Has all put from the first on that its receiver lacks of its sender, where nothing is left to put.
@@ -191,6 +201,7 @@ impl<'a> Links<'a> {
             has_put_all: true,
             is_behind: false,
             since: [0; MAX_PROCESSES],
+            counts: [0; MAX_PROCESSES],
         }
     }
 
@@ -277,8 +288,11 @@ impl<'a> Links<'a> {
         }
     }
 
-    // Wakes the worker of a process, for which something was put.
+    // Wakes the worker of a process, for which a message was put. It is counted first: who is woken by it finds it counted.
     fn tell(&self, place: usize) {
+        if let Some(receiver) = self.received.get(place) {
+            receiver.post(self.own.index());
+        }
         if let Some(bell) = self.bells.get(place) {
             bell.tell(self.own.index());
         }
@@ -390,11 +404,30 @@ impl<'a> Links<'a> {
         self.is_behind = false;
         self.has_put_all = true;
         for to in 0..self.n {
-            self.put_to(rt, alloc, core, Pid::at(to))?;
+            let to = Pid::at(to);
+            if self.begin_put(core, to) {
+                self.put_to(rt, alloc, core, to)?;
+            }
         }
         Ok(())
     }
 
+    // Begins to put to a process, and says whether some of the messages to it that are kept are not put yet. Mostly there are none.
+    fn begin_put(&mut self, core: &ProcCore, to: Pid) -> bool
+        requires size { cluster_size core.now.now ≡ self.old.ends.n }
+        requires to { to < self.old.ends.n }
+        ensures { self.new ≡ self.old }
+    {
+        let place = to.index();
+        self.left[place] = false;
+        match core.outbox(to).last() {
+            Some(newest) => newest.ssn >= self.next[place],
+            None => false,
+        }
+    }
+
+    // Puts the messages to a process that are kept and not put yet, as far as there is room for them.
+    #[inline(never)]
     fn put_to<R: Wait>(
         &mut self,
         rt: &R,
@@ -410,7 +443,6 @@ impl<'a> Links<'a> {
         ensures taken { self.new.taken ≡ self.old.taken }
         ensures behind { self.new.is_behind ≡ not self.new.has_put_all }
     {
-        self.left[to.index()] = false;
         let outbox = core.outbox(to);
         let Some(oldest) = outbox.first() else {
             return Ok(());
@@ -510,7 +542,8 @@ impl<'a> Links<'a> {
         taken
     }
 
-    // Counts a message that was taken, and wakes its sender where that may wait for room.
+    // Counts a message that was taken, and wakes its sender where that may wait for room. Its mark goes once all that it told of are
+    // taken: of each other message it tells still, and sets the mark anew, since it counts one before it tells of it.
     fn count_taken(&mut self, from: usize)
         requires { from < self.old.ends.n }
         ensures ends { self.new.ends ≡ self.old.ends }
@@ -520,6 +553,11 @@ impl<'a> Links<'a> {
         ensures taken { self.new.taken ≡ min (self.old.taken + 1) u64.MAX }
     {
         self.taken = self.taken.saturating_add(1);
+        let count = self.counts[from].wrapping_add(1);
+        self.counts[from] = count;
+        if has_all(self.received, self.own, from, count) {
+            self.marked.remove(from);
+        }
         let since = self.since[from].saturating_add(1);
         if since >= ROOM {
             self.since[from] = 0;

@@ -1,5 +1,5 @@
 -- What all workers bring back.
-use Rattle.std.specs.Prelude.{◌≡◌, ℕ, ◌<◌, All, List, Bool, IfOk, Option, None, Some, Result, Ok, Err, length, slice_get, slice_index_or}
+use Rattle.std.specs.Prelude.{◌≡◌, ℕ, ◌<◌, ◌≤◌, ◌+◌, All, List, Bool, IfOk, Option, None, Some, Result, Ok, Err, length, slice_get, slice_index_or, vec_capacity, vec_len}
 use Rattle.om_process.specs.Images.{program_of}
 use Rattle.om_process.specs.declared.image.Image.{Image}
 use Rattle.om_process.specs.Core.{IsEnd}
@@ -24,6 +24,15 @@ pub record AreParts {K S : Type 0} (is_clean : S → Bool) (images : List Image)
   pub ended : All IsEnd parts.statuses.items
   pub of_each : AreOwn parts.harvests.items
   pub whole : AreWholeOver is_clean images parts.statuses.items (harvested parts.harvests.items) parts.stores.items
+
+-- these parts have room for what n more workers bring back
+pub record HasRoom {K S : Type 0} (n : ℕ) (parts : Parts K S) : Type 0 where
+  pub statuses : vec_len parts.statuses + n ≤ vec_capacity parts.statuses
+  pub harvests : vec_len parts.harvests + n ≤ vec_capacity parts.harvests
+  pub stores : vec_len parts.stores + n ≤ vec_capacity parts.stores
+  pub puts : vec_len parts.puts + n ≤ vec_capacity parts.puts
+  pub takes : vec_len parts.takes + n ≤ vec_capacity parts.takes
+  pub witnesses : vec_len parts.witnesses + n ≤ vec_capacity parts.witnesses
 
 -- each of n workers that ended well ended so
 abbrev pub AreEndsOf : {K S E : Type 0} → (S → Bool) → List Image → Lines → ℕ → List (Result (Finished K S) E) → Type 0

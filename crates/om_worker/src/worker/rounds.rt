@@ -223,7 +223,13 @@ impl<'a, K: Naming> Worker<'a, K> {
         ensures landed { IfOk result (λ r. IsLanded r.0) }
         ensures turned { IfOk result (λ r. IsTurnOf K.cell.n self.old.manager_link.round (WorkerState.Down down_node.entry) r.0) }
     {
-        let (round_outcome, pass) = self.listen(rt, alloc, pass)?;
+        let (round_outcome, pass) = match self.listen(rt, alloc, pass) {
+            Ok(heard) => heard,
+            Err(worker_fault) => {
+                drop(down_node);
+                return Err(worker_fault);
+            }
+        };
         match round_outcome {
             None => Ok((WorkerState::Down(down_node), pass)),
             Some(round_outcome) => {

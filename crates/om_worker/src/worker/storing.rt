@@ -10,7 +10,7 @@ ghost use Rattle.om_worker.specs.steps.Dropping.{HasDropped};
 use super::{ALL_RECEIPTS, Worker};
 use om_board::Naming;
 use om_interval::{Bounds, DepVec};
-use om_node::{Deposit, Due, Landing, Limits, Node, WorkerFault};
+use om_node::{Deposit, Due, Landing, Limits, Node, Transaction, WorkerFault};
 use om_stable::{Ledger, Stable};
 use om_tickets::Series;
 use om_worker_parts::TurnOutcome;
@@ -234,12 +234,42 @@ impl<'a, K: Naming> Worker<'a, K> {
         let Some(due) = self.due.take() else {
             return node.store(alloc, k, is_checkpoint_due, &Deposit::none(alloc), None);
         };
+        let stored = self.store_with(alloc, node, k, is_checkpoint_due, &due);
+        // Dropped by one call: at the end of the scope each of its parts would be.
+        drop(due);
+        stored
+    }
+
+    // Stores the first k receipts of the log, a checkpoint where one is due, and this, in one transaction.
+    fn store_with<J: Series, S: Ledger>(
+        &mut self,
+        alloc: Global,
+        node: &mut Node<'a, J, S>,
+        k: usize,
+        is_checkpoint_due: bool,
+        due: &Due,
+    ) -> Result<(), WorkerFault>
+        ensures same { self.new.links.ends ≡ self.old.links.ends }
+        ensures member { node.new.member ≡ node.old.member }
+        ensures now { node.new.core.now ≡ node.old.core.now }
+        ensures stored { OnOk result (HasStored k is_checkpoint_due node.old.core node.new.core) }
+        ensures refused { OnErr result (node.new.core ≡ node.old.core) }
+        ensures due { self.new.due ≡ self.old.due }
+    {
         let prune_to = Some(due.checkpoint);
         node.store(alloc, k, is_checkpoint_due, &due.deposit, prune_to)?;
+        self.keep(due);
+        Ok(())
+    }
+
+    // Counts what the store was given beside its records, where a run may take it up.
+    fn keep(&mut self, due: &Due)
+        ensures same { self.new.links.ends ≡ self.old.links.ends }
+        ensures due { self.new.due ≡ self.old.due }
+    {
         if let Some(kept) = &mut self.kept {
             kept.add(&due.deposit);
         }
-        Ok(())
     }
 
     // Begins a flight where the store is slow, none is under way, what landed is noted, and so many receipts are in the log, or came
@@ -353,10 +383,17 @@ impl<'a, K: Naming> Worker<'a, K> {
     {
         self.is_away = false;
         let transaction = node.land(landing)?;
-        self.diary.landed(transaction.flight.receipts.len());
-        if let (Some(kept), Some(due)) = (&mut self.kept, &transaction.due) {
-            kept.add(&due.deposit);
-        }
+        self.note_landed(transaction);
         Ok(())
+    }
+
+    // Notes that what a flight carried is stored.
+    fn note_landed(&mut self, transaction: Transaction)
+        ensures { self.new.links.ends ≡ self.old.links.ends }
+    {
+        self.diary.landed(transaction.flight.receipts.len());
+        if let Some(due) = &transaction.due {
+            self.keep(due);
+        }
     }
 }

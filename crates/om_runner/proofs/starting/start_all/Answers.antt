@@ -4,7 +4,6 @@ use Rattle.std.proofs.lemmas.Option.{slice_get_read}
 use Rattle.om_process.specs.Images.{program_of}
 use Rattle.om_board.proofs.ListLemmas.{map_get}
 use Rattle.std.specs.Vec.Iter.{into_iter_items, into_iter_len}
-use Rattle.om_worker_parts.specs.Network.{ArePuts, AreTakes}
 use Rattle.om_worker_parts.specs.Wiring.{HasEnds}
 use Rattle.om_runner.specs.steps.Ends.{IsPromised}
 use Rattle.om_runner.proofs.ReportLemmas.{any_default, each_more, ends_at, next_of}
@@ -25,33 +24,12 @@ loop-one-init g c =
       λ k a h lt. absurd (let z = c.requires.none in omega arith),
     )
 
-pub new-links-requires-clause-puts : goal.new-links-requires-clause-puts
-new-links-requires-clause-puts g c =
+pub links_of-links-requires-clause-ends : goal.links_of-links-requires-clause-ends
+links_of-links-requires-clause-ends g c =
     let first : get_or (into_iter_items c.loop-one.one-iterator) 0 c.in-Some.one ≡ c.in-Some.one = search rules in
     let lt : 0 < into_iter_len c.loop-one.one-iterator = search rules in
     let have = subst (HasEnds g.K.Naming.cell.n c.args.cluster.now.inboxes.now (vec_len c.loop-one.handles + 0)) first (c.loop-one.invariant.3 0 c.in-Some.one lt) in
-    have.put ∙ sym c.requires.ready.wired.network.senders
-
-pub new-links-requires-clause-takes : goal.new-links-requires-clause-takes
-new-links-requires-clause-takes g c =
-    let first : get_or (into_iter_items c.loop-one.one-iterator) 0 c.in-Some.one ≡ c.in-Some.one = search rules in
-    let lt : 0 < into_iter_len c.loop-one.one-iterator = search rules in
-    let have = subst (HasEnds g.K.Naming.cell.n c.args.cluster.now.inboxes.now (vec_len c.loop-one.handles + 0)) first (c.loop-one.invariant.3 0 c.in-Some.one lt) in
-    have.take ∙ sym c.requires.ready.wired.network.senders
-
-pub new-links-requires-clause-putting : goal.new-links-requires-clause-putting
-new-links-requires-clause-putting g c =
-    let first : get_or (into_iter_items c.loop-one.one-iterator) 0 c.in-Some.one ≡ c.in-Some.one = search rules in
-    let lt : 0 < into_iter_len c.loop-one.one-iterator = search rules in
-    let have = subst (HasEnds g.K.Naming.cell.n c.args.cluster.now.inboxes.now (vec_len c.loop-one.handles + 0)) first (c.loop-one.invariant.3 0 c.in-Some.one lt) in
-    subst (λ k. ArePuts c.args.cluster.now.inboxes.now k c.in-Some.one.puts.items) (search rules) have.putting
-
-pub new-links-requires-clause-taking : goal.new-links-requires-clause-taking
-new-links-requires-clause-taking g c =
-    let first : get_or (into_iter_items c.loop-one.one-iterator) 0 c.in-Some.one ≡ c.in-Some.one = search rules in
-    let lt : 0 < into_iter_len c.loop-one.one-iterator = search rules in
-    let have = subst (HasEnds g.K.Naming.cell.n c.args.cluster.now.inboxes.now (vec_len c.loop-one.handles + 0)) first (c.loop-one.invariant.3 0 c.in-Some.one lt) in
-    subst (λ k. AreTakes c.args.cluster.now.inboxes.now k c.in-Some.one.takes.items) (search rules) have.taking
+    subst (λ k. HasEnds g.K.Naming.cell.n c.args.cluster.now.inboxes.now k c.in-Some.one) (search rules) have
 
 pub start_apart-requires-clause-program : goal.start_apart-requires-clause-program
 start_apart-requires-clause-program g c = λ lifetimes outlive.
@@ -60,8 +38,8 @@ start_apart-requires-clause-program g c = λ lifetimes outlive.
     let image = c.index-image.result.now in
     let within : own < length images = search rules in
     let at : slice_get images own ≡ Some image = slice_get_read images (length images) own image refl within c.index-image.ensures in
-    let here : c.new-links.result.ends.own ≡ own = c.new-links.ensures.own ∙ c.at.ensures in
-    subst (λ ps. slice_get ps c.new-links.result.ends.own ≡ Some (program_of image)) (sym c.requires.named.run)
+    let here : c.links_of-links.result.ends.own ≡ own = c.links_of-links.ensures.own in
+    subst (λ ps. slice_get ps c.links_of-links.result.ends.own ≡ Some (program_of image)) (sym c.requires.named.run)
     (subst (λ i. slice_get (map program_of images) i ≡ Some (program_of image)) (sym here) (map_get program_of images own image at))
 
 pub loop-one-preserved : goal.loop-one-preserved
@@ -89,8 +67,8 @@ loop-one-preserved g c =
           let here : IsPromised c.args.cluster.now.config.now (get_or images (length c.loop-one.handles.items) a) lines (length c.loop-one.handles.items) n handle.promise = record {
             plan_is = started.config;
             image_is = started.image ∙ c.index-image.ensures ∙ any_default images c.len-own.result c.index-image.result.now a within ∙ ap (λ i. get_or images i a) own;
-            lines_are = started.inboxes ∙ c.new-links.ensures.lines;
-            own_is = started.own ∙ c.new-links.ensures.own ∙ c.at.ensures ∙ own;
+            lines_are = started.inboxes ∙ c.links_of-links.ensures.lines;
+            own_is = started.own ∙ c.links_of-links.ensures.own ∙ own;
             n_is = started.n;
           } in
           each_more (λ i x. IsPromised c.args.cluster.now.config.now (get_or images i a) lines i n x.promise) c.loop-one.handles.items c.push_reserved.new.self.items handle c.push_reserved.ensures.items

@@ -37,6 +37,6 @@ returns c =
     let long = length-take-le c.args.count c.args.lens.now c.requires.count in
     let all : c.loop-len.len-index ≡ c.args.count = omega (arith, long) in
     let rest : length c.loop-len.rest.now ≡ length (drop (total (take c.args.count c.args.lens.now)) c.args.bytes.now) =
-        ap length c.loop-len.invariant ∙ ap (λ k. length (drop (total (take k c.args.lens.now)) c.args.bytes.now)) all in
+    ap length c.loop-len.invariant ∙ ap (λ k. length (drop (total (take k c.args.lens.now)) c.args.bytes.now)) all in
     let parts = total-parts c.args.lens.now c.args.count in
     omega (arith, rest, parts, c.requires.within, length-drop (total (take c.args.count c.args.lens.now)) c.args.bytes.now)

@@ -44,7 +44,7 @@ loop-len-preserved c =
     let inside : k < length lens = omega (arith, less, c.requires.count) in
     let here : get_or (take c.args.count lens) k 0 ≡ get_or lens k 0 = get_or-take c.args.count lens k 0 less in
     let piece : c.in_ok-from_slice.field-0.items ≡ take (get_or lens k 0) (drop (total (take k lens)) c.args.bytes.now) =
-        c.in_ok-from_slice.ensures.items ∙ ap (λ n. take n c.loop-len.rest.now) here ∙ ap (take (get_or lens k 0)) c.loop-len.invariant.passed in
+    c.in_ok-from_slice.ensures.items ∙ ap (λ n. take n c.loop-len.rest.now) here ∙ ap (take (get_or lens k 0)) c.loop-len.invariant.passed in
     record {
       copied = ap bytes_of c.in_ok-push.ensures.items ∙ map-append (λ (r : Vec ℕ Global). r.items) c.loop-len.found.items _
           ∙ ap (λ bs. bs ++ c.in_ok-from_slice.field-0.items ∷ []) c.loop-len.invariant.copied

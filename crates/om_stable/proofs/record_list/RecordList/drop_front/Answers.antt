@@ -29,16 +29,18 @@ overflow_sub-len c =
 pub invariant_of-self : goal.invariant_of-self
 invariant_of-self c =
     let lens = rest_from c.deref.result.now c.self.inside.lens.items c.self.inside.gone c.deref.ensures.value in
-    let counted : c.begin_of-size.result ≡ total (take c.args.count (drop c.self.inside.gone c.self.inside.lens.items)) = c.begin_of-size.ensures ∙ ap (λ ls. total (take c.args.count ls)) lens in
-    (count_left c.self.inside.lens.items c.self.inside.bytes.items c.self.inside.gone c.self.inside.past c.args.count c.args.self.now c.self.view_is c.requires c.self.invariant.0,
-    front_dropped c.self.inside.lens.items c.self.inside.bytes.items c.self.inside.gone c.self.inside.past c.args.count c.begin_of-size.result c.self.invariant.1 counted)
+    let counted : c.begin_of-size.result ≡ total (take c.args.count (drop c.self.inside.gone c.self.inside.lens.items)) = c.begin_of-size.ensures ∙ ap (λ ls. total (take c.args.count ls)) lens in (
+      count_left c.self.inside.lens.items c.self.inside.bytes.items c.self.inside.gone c.self.inside.past c.args.count c.args.self.now c.self.view_is c.requires c.self.invariant.0,
+      front_dropped c.self.inside.lens.items c.self.inside.bytes.items c.self.inside.gone c.self.inside.past c.args.count c.begin_of-size.result c.self.invariant.1 counted,
+    )
 
 pub invariant_of-self-else-self-len : goal.invariant_of-self-else-self-len
 invariant_of-self-else-self-len c =
     let lens = rest_from c.deref.result.now c.self.inside.lens.items c.self.inside.gone c.deref.ensures.value in
-    let counted : c.begin_of-size.result ≡ total (take c.args.count (drop c.self.inside.gone c.self.inside.lens.items)) = c.begin_of-size.ensures ∙ ap (λ ls. total (take c.args.count ls)) lens in
-    (count_left c.self.inside.lens.items c.self.inside.bytes.items c.self.inside.gone c.self.inside.past c.args.count c.args.self.now c.self.view_is c.requires c.self.invariant.0,
-    front_dropped c.self.inside.lens.items c.self.inside.bytes.items c.self.inside.gone c.self.inside.past c.args.count c.begin_of-size.result c.self.invariant.1 counted)
+    let counted : c.begin_of-size.result ≡ total (take c.args.count (drop c.self.inside.gone c.self.inside.lens.items)) = c.begin_of-size.ensures ∙ ap (λ ls. total (take c.args.count ls)) lens in (
+      count_left c.self.inside.lens.items c.self.inside.bytes.items c.self.inside.gone c.self.inside.past c.args.count c.args.self.now c.self.view_is c.requires c.self.invariant.0,
+      front_dropped c.self.inside.lens.items c.self.inside.bytes.items c.self.inside.gone c.self.inside.past c.args.count c.begin_of-size.result c.self.invariant.1 counted,
+    )
 
 pub returns-then-self-len : goal.returns-then-self-len
 returns-then-self-len c =

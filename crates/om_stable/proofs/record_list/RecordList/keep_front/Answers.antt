@@ -29,9 +29,10 @@ invariant_of-self c =
     let room : c.self.inside.gone + c.args.count ≤ length c.self.inside.lens.items = count_left c.self.inside.lens.items c.self.inside.bytes.items c.self.inside.gone c.self.inside.past c.args.count c.args.self.now c.self.view_is c.requires c.self.invariant.0 in
     let kept = front_kept c.self.inside.lens.items c.self.inside.bytes.items c.self.inside.gone c.self.inside.past c.args.count c.begin_of-end.result c.self.invariant.1 counted room in
     let count = ap length c.truncate.ensures.items in
-    let long = length-take-le (c.self.inside.gone + c.args.count) c.self.inside.lens.items room in
-    (omega (arith, count, long),
-    ap (λ ls. c.self.inside.past + total (drop c.self.inside.gone ls)) c.truncate.ensures.items ∙ kept ∙ sym (ap length c.truncate-2.ensures.items))
+    let long = length-take-le (c.self.inside.gone + c.args.count) c.self.inside.lens.items room in (
+      omega (arith, count, long),
+      ap (λ ls. c.self.inside.past + total (drop c.self.inside.gone ls)) c.truncate.ensures.items ∙ kept ∙ sym (ap length c.truncate-2.ensures.items),
+    )
 
 pub returns : goal.returns
 returns c =

@@ -8,5 +8,5 @@ pub returns-in_ok-state-in-Some-clause-turned : goal.returns-in_ok-state-in-Some
 returns-in_ok-state-in-Some-clause-turned g c =
     let w = c.args.self.now in let n = g.K.Naming.cell.n in let outcome = c.in-Some.round_outcome in
     let heard : WasTold n w.manager_link.pid outcome =
-    subst (λ (o : Option RoundOutcome). IfSome o (λ t. WasTold n w.manager_link.pid t)) c.in-Some.is c.in_ok-round_outcome.ensures.heard in
+    subst (λ (o : Option RoundOutcome). IfSome o (λ t. WasTold n w.manager_link.pid t)) c.in-Some.is c.in-Ok.ensures.heard in
     inr (outcome, subst (λ (p : ℕ). WasTold n p outcome) (sym (c.requires.own ∙ w.linked)) heard, c.in_ok-state-in-Some.ensures.back)
