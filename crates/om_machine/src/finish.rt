@@ -10,6 +10,7 @@ use crate::known::forget;
 use crate::limits::{A0, A1};
 use crate::machine::Machine;
 use crate::memory::overwrite;
+use om_pages::{PAGE, mark, page_count};
 
 impl Machine {
     /// Finishes the send or the output at which the machine stands: its result goes into x10.
@@ -52,7 +53,7 @@ impl Machine {
         self.advance();
     }
 
-    // Writes bytes to memory, after which nothing is known of the words that they lie in.
+    // Writes bytes to memory, after which nothing is known of the words that they lie in, and marks their pages.
     #[tactic(auto, unfolding(crate::specs::State::written))]
     fn write_all(&mut self, address: u32, bytes: &[u8])
         requires { address + length bytes.now ≤ length self.old.memory }
@@ -60,7 +61,9 @@ impl Machine {
         ensures count { self.new.count ≡ self.old.count }
     {
         let start = address as usize;
-        forget(&mut self.table, start / 4, (start + bytes.len() + 3) / 4);
+        let end = start + bytes.len();
+        forget(&mut self.table, start / 4, (end + 3) / 4);
+        mark(&mut self.touched, start / PAGE, page_count(end));
         overwrite(&mut self.memory, start, bytes);
     }
 }

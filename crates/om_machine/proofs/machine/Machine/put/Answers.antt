@@ -13,6 +13,7 @@ invariant_of-self c =
       registers = length-set m.regs.items c.args.rd c.args.value ∙ c.self.invariant.registers;
       table = c.self.invariant.table;
       knows = c.self.invariant.knows;
+      touches = c.self.invariant.touches;
     }
 
 pub returns-then-rd-ne0-clause-state : goal.returns-then-rd-ne0-clause-state
