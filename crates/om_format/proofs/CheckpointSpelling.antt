@@ -9,13 +9,15 @@ use Rattle.std.proofs.lemmas.Bool.{and_parts, and_from, leb-true, le-leb, lt-ltb
 use Rattle.std.proofs.lemmas.List.{append-nil, length-drop, length-take}
 use Rattle.om_interval.specs.declared.pid.TheConstants.{MAX_PROCESSES}
 use Rattle.om_format.specs.declared.queue.QueueEntry.{QueueEntry}
-use Rattle.om_format.specs.declared.limits.TheConstants.{MAX_BODY, PAGE}
+use Rattle.om_pages.specs.declared.pages.TheConstants.{PAGE}
+use Rattle.om_format.specs.declared.limits.TheConstants.{MAX_BODY}
 use Rattle.om_isa.specs.declared.memory.TheConstants.{MAX_MEMORY}
 use Rattle.om_isa.specs.declared.registers.TheConstants.{WRITABLE_REGISTERS}
 use Rattle.om_isa.specs.declared.ext.Ext.{Ext}
 use Rattle.om_isa.specs.declared.ext.Ext.TheVariants.{I, Im}
 use Rattle.om_format.specs.declared.version.Version.TheVariants.{V2}
-use Rattle.om_format.specs.Pages.{Page, page_count, page_size, is_kept, kept_pages, pages, counted_pages, page_values}
+use Rattle.om_pages.specs.Pages.{Page, page_count, page_size, is_kept, kept_pages}
+use Rattle.om_format.specs.Pages.{pages, counted_pages, page_values}
 use Rattle.om_format.specs.Versions.{kind_of, is_kind, version_number, memory_in, memory_values}
 use Rattle.om_format.proofs.KeptPages.{kept_from, kept_by, kept_pages_are}
 use Rattle.om_format.proofs.MemoryReading.{FitsPage}

@@ -15,7 +15,8 @@ use Rattle.om_format.specs.declared.queue.QueueEntry.{QueueEntry}
 use Rattle.om_format.specs.declared.version.Version.{Version}
 use Rattle.om_format.specs.declared.version.Version.TheVariants.{V1, V2}
 use Rattle.om_format.specs.Formats.{Format, end, two, eight}
-use Rattle.om_format.specs.Pages.{Page, page_count, kept_pages, page_values}
+use Rattle.om_pages.specs.Pages.{Page, page_count, kept_pages}
+use Rattle.om_format.specs.Pages.{page_values}
 use Rattle.om_format.specs.Queues.{QueueRecord, queue_end, entry_values, queue_values, queue, queues}
 use Rattle.om_format.specs.Versions.{kind_of, is_kind, version_number, is_version, version_of, memory_in, before_memory, memory_values}
 use Rattle.om_format.specs.steps.Kinds.{ext_of}

@@ -1,6 +1,5 @@
 pub mod Numbers
 pub mod KeptPages
-pub mod Words
 pub mod Formats
 pub mod Parts
 pub mod Holding

@@ -7,8 +7,8 @@ use Rattle.om_format.specs.Formats.{four}
 use Rattle.om_format.specs.Queues.{QueueRecord}
 use Rattle.om_format.specs.Outcomes.{Fails}
 use Rattle.om_format.specs.steps.Reading.{◌>>=◌}
-use Rattle.om_format.specs.declared.limits.TheConstants.{PAGE}
-use Rattle.om_format.specs.Pages.{Page, page_count}
+use Rattle.om_pages.specs.declared.pages.TheConstants.{PAGE}
+use Rattle.om_pages.specs.Pages.{Page, page_count}
 use Rattle.om_format.specs.steps.CheckpointReading.{next_page_at, pages_at, entry_at, entries_at, queue_at, queues_at}
 
 -- what was read before, and what is still read

@@ -5,11 +5,12 @@ use Rattle.std.proofs.lemmas.Bool.{and_parts, leb-true, ltb-true}
 use Rattle.std.proofs.lemmas.List.{length-append, length-replicate}
 use Rattle.std.specs.List.{flat_map}
 use Rattle.om_format.specs.declared.error.DecodeError.{DecodeError}
-use Rattle.om_format.specs.declared.limits.TheConstants.{PAGE}
+use Rattle.om_pages.specs.declared.pages.TheConstants.{PAGE}
 use Rattle.om_format.specs.declared.version.Version.{Version}
 use Rattle.om_format.specs.declared.version.Version.TheVariants.{V1, V2}
 use Rattle.om_format.specs.Formats.{two, Format, bytes}
-use Rattle.om_format.specs.Pages.{Page, page_count, page_size, is_kept, kept_pages, pages, counted_pages, page_values}
+use Rattle.om_pages.specs.Pages.{Page, page_count, page_size, is_kept, kept_pages}
+use Rattle.om_format.specs.Pages.{pages, counted_pages, page_values}
 use Rattle.om_format.specs.Versions.{memory_in, memory_values}
 use Rattle.om_format.specs.steps.Reading.{◌>>=◌, allow, number_at, bytes_at, fields_at}
 use Rattle.om_format.specs.steps.CheckpointReading.{next_page_at, pages_at, memory_at}

@@ -8,7 +8,8 @@ use Rattle.om_format.specs.declared.limits.TheConstants.{CHECKPOINT_KIND, CHECKP
 use Rattle.om_format.specs.declared.version.Version.{Version}
 use Rattle.om_format.specs.declared.version.Version.TheVariants.{V1, V2}
 use Rattle.om_format.specs.Formats.{two, Format, end, number, bytes}
-use Rattle.om_format.specs.Pages.{page_count, counted_pages, kept_pages, page_values}
+use Rattle.om_pages.specs.Pages.{page_count, kept_pages}
+use Rattle.om_format.specs.Pages.{counted_pages, page_values}
 
 -- the kind tells which instructions the program may use
 abbrev pub kind_of : Ext → ℕ

@@ -6,15 +6,15 @@ ghost use Rattle.om_format.specs.steps.CheckpointBytes.{head_bytes, vector_bytes
 ghost use Rattle.om_format.specs.Formats.{four};
 ghost use Rattle.om_format.specs.Queues.{queue_record};
 ghost use Rattle.om_format.specs.Spelling.{numbers};
-ghost use Rattle.om_format.specs.Pages.{page_at, page_count, kept_pages};
+ghost use Rattle.om_pages.specs.Pages.{page_at, page_count, kept_pages};
 ghost use Rattle.om_format.specs.Versions.{kind_of};
 ghost use Rattle.om_isa.specs.declared.memory.TheConstants.{MAX_MEMORY};
 
 use crate::head::Head;
-use crate::limits::{CHECKPOINT_KIND, CHECKPOINT_KIND_M, CHECKPOINT_VERSION_2, PAGE};
-use crate::pages::page_of;
+use crate::limits::{CHECKPOINT_KIND, CHECKPOINT_KIND_M, CHECKPOINT_VERSION_2};
 use crate::queue::{Queue, QueueEntry};
 use om_isa::Ext;
+use om_pages::{PAGE, page_of};
 use std::alloc::AllocError;
 
 // Returns the kind of a checkpoint, which tells which instructions its program may use.

@@ -1,6 +1,7 @@
 //! What holds of the formats alone.
 
-ghost use Rattle.om_format.specs.declared.limits.TheConstants.{CHECKPOINT_KIND, CHECKPOINT_KIND_M, CHECKPOINT_VERSION_1, CHECKPOINT_VERSION_2, MAX_BODY, MAX_PROCESSES_OF_VERSION_1, PAGE, RECEIPT_KIND, RECEIPT_VERSION};
+ghost use Rattle.om_pages.specs.declared.pages.TheConstants.{PAGE};
+ghost use Rattle.om_format.specs.declared.limits.TheConstants.{CHECKPOINT_KIND, CHECKPOINT_KIND_M, CHECKPOINT_VERSION_1, CHECKPOINT_VERSION_2, MAX_BODY, MAX_PROCESSES_OF_VERSION_1, RECEIPT_KIND, RECEIPT_VERSION};
 ghost use Rattle.std.specs.Prelude.{◌≡◌, ◌<◌, ◌⊎◌, ℕ, List, Some, slice_index};
 ghost use Rattle.om_format.specs.Checkpoints.{CheckpointRecord, SpellsCheckpoint, IsSpelled, checkpoint_fault};
 ghost use Rattle.om_format.specs.Receipts.{ReceiptRecord, SpellsReceipt, receipt_fault};

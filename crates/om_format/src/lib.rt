@@ -8,7 +8,7 @@
 //!
 //! - what is recorded: `body`, `message`, `queue`, `memory`, `receipt`, `head` and `checkpoint`
 //! - the formats: `limits` (kinds, versions, limits), `version`, `error` (why bytes are no record), `laws`
-//! - to bytes: `encoding`, `checkpoint_writing`, `pages`
+//! - to bytes: `encoding`, `checkpoint_writing`
 //! - from bytes: `decoding`, `reading` (fields from the left), `offsets` (where the parts of a checkpoint begin),
 //!   `checkpoint_reading`, `queue_reading`, `memory_reading`
 #![tactic(auto)]
@@ -19,9 +19,10 @@ pub use decoding::{decode_checkpoint, decode_receipt};
 pub use encoding::{encode_checkpoint, encode_parts, encode_receipt};
 pub use error::DecodeError;
 pub use head::Head;
-pub use limits::{MAX_BODY, MAX_PROCESSES_OF_VERSION_1, PAGE};
+pub use limits::{MAX_BODY, MAX_PROCESSES_OF_VERSION_1};
 pub use memory::MemoryBytes;
 pub use message::Message;
+pub use om_pages::PAGE;
 pub use queue::{Queue, QueueEntry};
 pub use receipt::Receipt;
 pub use version::Version;
@@ -40,7 +41,6 @@ mod memory;
 mod memory_reading;
 mod message;
 mod offsets;
-mod pages;
 mod queue;
 mod queue_reading;
 mod reading;

@@ -23,6 +23,3 @@ pub const CHECKPOINT_VERSION_2: u8 = 2;
 
 /// The greatest number of processes in a checkpoint of version 1.
 pub const MAX_PROCESSES_OF_VERSION_1: usize = 8;
-
-/// The number of bytes in a page of a memory.
-pub const PAGE: usize = 256;

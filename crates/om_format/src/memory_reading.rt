@@ -5,16 +5,15 @@ ghost use Rattle.om_isa.specs.declared.memory.TheConstants.{MAX_MEMORY};
 ghost use Rattle.om_isa.specs.Memory.{is_memory_size};
 ghost use Rattle.om_format.specs.Outcomes.{Gives};
 ghost use Rattle.om_format.specs.steps.Telling.{Tells};
-ghost use Rattle.om_format.specs.Pages.{page_count, page_size};
+ghost use Rattle.om_pages.specs.Pages.{page_count, page_size};
 ghost use Rattle.om_format.specs.steps.CheckpointReading.{next_page_at, pages_at, memory_at, before_memory_at};
 ghost use Rattle.om_format.specs.declared.version.Version.TheVariants.{V2};
 
 use crate::error::DecodeError;
-use crate::limits::PAGE;
 use crate::memory::MemoryBytes;
-use crate::pages::{is_kept, page_count, page_size};
 use crate::reading::{Taken, bytes_at, u16_at};
 use crate::version::Version;
+use om_pages::{PAGE, is_kept, page_count, page_size};
 use std::alloc::Global;
 
 // Reads the index of a page of a memory of this size, from `low` on, its bytes, and those after it.

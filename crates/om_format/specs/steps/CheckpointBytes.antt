@@ -8,7 +8,7 @@ use Rattle.om_format.specs.declared.queue.QueueEntry.{QueueEntry}
 use Rattle.om_format.specs.Formats.{four}
 use Rattle.om_format.specs.Spelling.{numbers}
 use Rattle.om_format.specs.Queues.{QueueRecord}
-use Rattle.om_format.specs.Pages.{Page, kept_pages}
+use Rattle.om_pages.specs.Pages.{Page, kept_pages}
 use Rattle.om_format.specs.Versions.{kind_of, version_number}
 use Rattle.om_format.specs.Checkpoints.{CheckpointRecord}
 

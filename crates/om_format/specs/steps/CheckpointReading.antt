@@ -2,7 +2,7 @@
 use Rattle.std.specs.Prelude.{ℕ, zero, suc, ◌+◌, ◌-◌, ◌*◌, ◌%◌, ◌==◌, ◌&&◌, List, [], ◌∷◌, ◌++◌, length, replicate, sum, slice_index, Result, Ok, nat_lt, nat_le}
 use Rattle.om_format.specs.declared.error.DecodeError.{DecodeError}
 use Rattle.om_format.specs.declared.error.DecodeError.TheVariants.{Field}
-use Rattle.om_format.specs.declared.limits.TheConstants.{PAGE}
+use Rattle.om_pages.specs.declared.pages.TheConstants.{PAGE}
 use Rattle.om_format.specs.declared.offsets.TheConstants.{CLUSTER, COUNT, OWN, PC, VECTOR}
 use Rattle.om_isa.specs.declared.registers.TheConstants.{WRITABLE_REGISTERS}
 use Rattle.om_format.specs.declared.version.Version.{Version}
@@ -11,7 +11,7 @@ use Rattle.om_format.specs.declared.checkpoint_reading.Front.{Front}
 use Rattle.om_format.specs.declared.queue.QueueEntry.{QueueEntry}
 use Rattle.om_format.specs.Formats.{Size, one, two, four, eight, bytes_in}
 use Rattle.om_format.specs.Queues.{QueueRecord, is_between}
-use Rattle.om_format.specs.Pages.{Page, page_count, page_size, is_kept}
+use Rattle.om_pages.specs.Pages.{Page, page_count, page_size, is_kept}
 use Rattle.om_format.specs.Versions.{is_kind, is_version, version_of, is_cluster_size}
 use Rattle.om_format.specs.steps.Kinds.{ext_of}
 use Rattle.om_format.specs.Checkpoints.{CheckpointRecord}

@@ -1,6 +1,6 @@
 use Rattle.std.proofs.Common.{◌≡◌, append_assoc, ap, ◌∙◌, sym, length}
 use Rattle.std.proofs.lemmas.List.{length-map}
-use Rattle.om_format.specs.Pages.{page_at, kept_pages}
+use Rattle.om_pages.specs.Pages.{page_at, kept_pages}
 use Rattle.om_format.proofs.checkpoint_writing.put_memory.Goals as goal
 
 pub returns : goal.returns

@@ -1,7 +1,7 @@
 use Rattle.std.proofs.Common.{◌≡◌, ◌++◌, take}
 use Rattle.std.specs.Prelude.{map}
 use Rattle.std.specs.List.{flat_map}
-use Rattle.om_format.specs.Pages.{page_at}
+use Rattle.om_pages.specs.Pages.{page_at}
 use Rattle.om_format.specs.steps.CheckpointBytes.{page_bytes}
 use Rattle.om_format.proofs.checkpoint_writing.put_pages.Given as goal
 

@@ -1,7 +1,7 @@
 use Rattle.std.proofs.Common.{◌≡◌, ℕ, ◌++◌, ◌*◌, ◌-◌, replicate, take, length, vec_len, List, ap, ◌∙◌, arith, rules}
 use Rattle.std.proofs.lemmas.Result.{err_from_is_err_and}
 use Rattle.std.proofs.lemmas.List.{length-append, length-replicate}
-use Rattle.om_format.specs.declared.limits.TheConstants.{PAGE}
+use Rattle.om_pages.specs.declared.pages.TheConstants.{PAGE}
 use Rattle.om_format.proofs.Loops.{next_front, last_front, pages_go_on, pages_end, pages_done}
 use Rattle.om_format.proofs.memory_reading.pages_at.Goals as goal
 

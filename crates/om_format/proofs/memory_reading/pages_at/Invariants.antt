@@ -1,6 +1,6 @@
 use Rattle.std.proofs.Common.{◌≡◌, ◌+◌, ◌-◌, ◌*◌, ◌≤◌, length, min}
-use Rattle.om_format.specs.declared.limits.TheConstants.{PAGE}
-use Rattle.om_format.specs.Pages.{page_count}
+use Rattle.om_pages.specs.declared.pages.TheConstants.{PAGE}
+use Rattle.om_pages.specs.Pages.{page_count}
 use Rattle.om_format.specs.steps.CheckpointReading.{pages_at}
 use Rattle.om_format.proofs.Loops.{with_front}
 use Rattle.om_format.proofs.memory_reading.pages_at.Given as goal

@@ -1,6 +1,0 @@
-use Rattle.std.proofs.Common.{◌≡◌, take}
-use Rattle.om_format.specs.Pages.{is_kept}
-use Rattle.om_format.proofs.pages.is_any_set.Given as goal
-
-abbrev pub invariant-loop-byte : goal.invariant-loop-byte
-invariant-loop-byte l = l.set ≡ is_kept (take l.byte-index l.bytes)

@@ -1,6 +1,0 @@
-use Rattle.std.proofs.Common.{rules}
-use Rattle.om_format.proofs.Words.{set_by_number}
-use Rattle.om_format.proofs.pages.is_set.Goals as goal
-
-pub returns : goal.returns
-returns c = set_by_number c.args.word.now 15 c.from_le_bytes.result (search rules) c.from_le_bytes.ensures
