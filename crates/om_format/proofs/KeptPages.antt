@@ -3,13 +3,10 @@ use Rattle.std.proofs.Common.{◌≡◌, ℕ, zero, suc, ◌+◌, ◌-◌, ◌*�
 use Rattle.std.specs.Prelude.{map, ◌||◌}
 use Rattle.std.specs.List.{filter, range_with_len}
 use Rattle.std.proofs.lemmas.Bool.{cases_lt, lt-ltb, false≢true}
-use Rattle.std.specs.List.{All}
-use Rattle.std.proofs.lemmas.List.Elements.{All-append, All-cons, All-nil, All-weaker}
-use Rattle.std.proofs.lemmas.List.{append-nil, map-append, length-append, length-drop, length-take, length-replicate, take-append-drop, take_at, drop_at, take_all, drop_all, take-replicate, drop-replicate, replicate-append-replicate}
-use Rattle.std.proofs.lemmas.List.FromFn.{filter_of_map_range_with_len_more}
+use Rattle.std.proofs.lemmas.List.{append-nil, length-append, length-drop, length-take, length-replicate, take-append-drop, take_at, drop_at, take_all, drop_all, take-replicate, drop-replicate, replicate-append-replicate}
 use Rattle.om_pages.specs.declared.pages.TheConstants.{PAGE}
 use Rattle.om_pages.proofs.KeptPages.{kept_before}
-use Rattle.om_pages.specs.Pages.{Page, page_count, page_size, page_at, is_kept, kept_pages}
+use Rattle.om_pages.specs.Pages.{Page, page_count, page_size, is_kept, kept_pages}
 
 -- ---- by recursion, for pages of any size
 

@@ -1,5 +1,5 @@
 -- What is read is lawful.
-use Rattle.std.proofs.Common.{◌≡◌, ℕ, zero, suc, ◌+◌, ◌-◌, ◌*◌, ◌%◌, ◌<◌, ◌≤◌, true, eqb, ltb, List, [], ◌∷◌, length, Ok, refl, ap, ◌∙◌, arith}
+use Rattle.std.proofs.Common.{◌≡◌, ℕ, zero, suc, ◌+◌, ◌-◌, ◌%◌, ◌<◌, ◌≤◌, true, eqb, ltb, List, [], ◌∷◌, length, Ok, refl, ap, ◌∙◌, arith}
 use Rattle.std.specs.Prelude.{map, sum, slice_index, nat_le}
 use Rattle.std.proofs.lemmas.Bool.{and_from, and_parts, ltb-true, leb-true, le-leb, eqb-true}
 use Rattle.om_format.specs.declared.checkpoint_reading.Front.{Front}

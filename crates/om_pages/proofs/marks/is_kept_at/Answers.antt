@@ -1,5 +1,4 @@
-use Rattle.std.proofs.Common.{◌≡◌, false, sym, ◌∙◌}
-use Rattle.std.proofs.lemmas.List.{get_or_default}
+use Rattle.std.proofs.Common.{sym}
 use Rattle.om_pages.proofs.Marking.{unmarked_page}
 use Rattle.om_pages.proofs.marks.is_kept_at.Goals as goal
 
