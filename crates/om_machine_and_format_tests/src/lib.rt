@@ -10,6 +10,8 @@ mod isa;
 #[cfg(test)]
 mod machine;
 #[cfg(test)]
+mod pages;
+#[cfg(test)]
 mod same;
 #[cfg(test)]
 mod text;

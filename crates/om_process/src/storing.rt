@@ -149,12 +149,13 @@ impl ProcCore {
         }
     }
 
-    // Spells the process as a checkpoint of now, from its memory where that lies.
+    // Spells the process as a checkpoint of now, from its memory where that lies; of that no page is looked at that was never written.
     fn encoded(&self, alloc: Global) -> Result<Vec<u8>, AllocError>
         ensures { IfOk result (λ bytes. IsSpelledNow self.now bytes.items) }
     {
         let kept = queues_of(alloc, &self.outbox)?;
         let outputs = self.outputs.queue(alloc)?;
+        let pages = self.machine.kept_pages(alloc)?;
         let head = Head {
             ext: self.machine.ext(),
             pid: self.pid,
@@ -167,7 +168,7 @@ impl ProcCore {
             sent: self.sent,
             made: self.made,
         };
-        encode_parts(alloc, &head, self.machine.memory(), &kept, &outputs)
+        encode_parts(alloc, &head, self.machine.memory(), &pages, &kept, &outputs)
     }
 }
 

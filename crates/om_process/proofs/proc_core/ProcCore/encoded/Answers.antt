@@ -8,5 +8,10 @@ pub encode_parts-requires : goal.encode_parts-requires
 encode_parts-requires c =
     let long : length c.regs.result ≡ 31 = search rules in
     let size : is_memory_size (length c.memory.result.now) ≡ true = search rules in
-    let same = ap (map queue_record) c.deref.ensures.value ∙ c.in_ok-kept.ensures in
-    rw c.count.ensures (core_lawful _ _ c.pc.result c.regs.result c.memory.result.now _ _ c.self.invariant c.pc.ensures.aligned long size same c.in_ok-outputs.ensures)
+    let same = ap (map queue_record) c.deref-2.ensures.value ∙ c.in_ok-kept.ensures in
+    record {
+      lawful = rw c.count.ensures (core_lawful _ _ c.pc.result c.regs.result c.memory.result.now _ _ c.self.invariant c.pc.ensures.aligned long size same c.in_ok-outputs.ensures);
+      pages = rw (c.deref.ensures.value, c.memory.ensures.bytes) c.in_ok-pages.ensures.kept;
+      within = rw (c.deref.ensures.value, c.memory.ensures.bytes) c.in_ok-pages.ensures.within;
+      few = rw (c.deref.ensures.value, c.memory.ensures.bytes) c.in_ok-pages.ensures.few;
+    }
