@@ -41,7 +41,7 @@ impl<'a, K: Naming> Worker<'a, K> {
     pub(super) fn rest<R: Wait + Clock>(&mut self, rt: &R) -> Pause
         ensures same { self.new.links.ends ≡ self.old.links.ends }
     {
-        if self.resent && !self.is_away && self.links.has_put_all() {
+        if self.resent && !self.storing.is_away && self.links.has_put_all() {
             self.wait(rt)
         } else {
             let pause = pause_of(rt, &self.links, &self.idle, &mut self.patience);

@@ -2,9 +2,9 @@
 use Rattle.std.proofs.Common.{◌≡◌, ℕ, Bool, true, false, subst}
 use Rattle.std.specs.Prelude.{◌&&◌, ◌||◌}
 use Rattle.om_process.specs.Core.{CoreState}
-use Rattle.om_worker.specs.declared.worker.TheConstants.{ALL_RECEIPTS}
+use Rattle.om_storing.specs.declared.storing.TheConstants.{ALL_RECEIPTS}
 use Rattle.om_node.specs.Storing.{HasStored}
-use Rattle.om_worker.specs.steps.Turning.{HasStoredBy, is_multiple_of}
+use Rattle.om_storing.specs.Receipts.{HasStoredBy, is_multiple_of}
 
 -- where the log is due, something is
 not_alone : (f k c : Bool) → (f || (k && c)) ≡ true → (f || k) ≡ false → ⊥
