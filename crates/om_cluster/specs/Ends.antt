@@ -3,11 +3,11 @@ use Rattle.std.specs.Prelude.{◌≡◌, ℕ, ◌≤◌, Bool, IfErr, IfOk, IsTr
 use Rattle.om_process.specs.Process.{Program}
 use Rattle.om_node.specs.Ends.{IsWholeRun}
 use Rattle.om_process.specs.Core.{IsEnd}
-use Rattle.om_worker_parts.specs.declared.config.Config.{Config}
+use Rattle.om_cluster.specs.declared.config.Config.{Config}
 use Rattle.om_report.specs.declared.fault.RunFault.{RunFault}
 use Rattle.om_cluster.specs.declared.finished.Finished.{Finished}
-use Rattle.om_worker_parts.specs.Network.{Lines}
-use Rattle.om_worker_parts.specs.Wiring.{HasEnds}
+use Rattle.om_links.specs.Network.{Lines}
+use Rattle.om_links.specs.Wiring.{HasEnds}
 use Rattle.om_report.specs.Faults.{IsFaultBy}
 
 -- how a process ended, with its outputs, its store and its passes: over a clean store the outputs are all that it had made

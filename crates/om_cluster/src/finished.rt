@@ -1,10 +1,10 @@
 //! What a worker brings back.
 
 use om_board::Naming;
+use om_links::Ends;
 use om_process::{Status, Witness};
 use om_report::Harvest;
 use om_stable::Stable;
-use om_worker_parts::Ends;
 
 /// Holds what a worker brings back.
 #[derive(Drop)]

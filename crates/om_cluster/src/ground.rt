@@ -2,12 +2,13 @@
 
 ghost use Rattle.std.specs.Prelude.{◌≡◌, ◌≤◌, IfOk, vec_len};
 ghost use Rattle.om_interval.specs.declared.pid.TheConstants.{MAX_PROCESSES};
-ghost use Rattle.om_worker_parts.specs.Wiring.{IsWired};
+ghost use Rattle.om_links.specs.Wiring.{IsWired};
 
+use crate::config::Config;
 use om_board::{Bell, Blank, Inbox, Naming, Pass, Shared, ring_all};
 use om_interval::MAX_PROCESSES;
+use om_links::{Ends, Network, Received, connected};
 use om_observers::Observers;
-use om_worker_parts::{Config, Ends, Network, Received, connected};
 use std::alloc::{AllocError, Global};
 use std::sync::atomic::Ordering::SeqCst;
 use std::sync::atomic::{AtomicBool, AtomicU64};

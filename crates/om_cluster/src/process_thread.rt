@@ -7,14 +7,15 @@ ghost use Rattle.om_cluster.specs.Ends.{IsEndOf, IsOwnEnd};
 
 use crate::finished::Finished;
 use crate::ground::Cluster;
+use crate::opener::Gate;
 use crate::store_maker::StoreMaker;
 use om_board::{Naming, Pass};
+use om_links::Links;
 use om_node::FlightChannel;
 use om_process::Image;
 use om_report::RunFault;
 use om_stable::Stable;
 use om_tickets::Series;
-use om_worker_parts::{Gate, Links};
 use std::sync::Wait;
 use std::time::Clock;
 

@@ -4,9 +4,9 @@ ghost use Rattle.std.specs.Prelude.{◌≡◌, IfOk, IsTrue};
 ghost use Rattle.om_stable.specs.Content.{nothing};
 ghost use Rattle.om_node.specs.Stores.{AreNeverClean};
 
+use crate::opener::{OpenFault, Opener};
 use om_interval::Pid;
 use om_stable::Ledger;
-use om_worker_parts::{OpenFault, Opener};
 use std::alloc::Global;
 
 /// Makes the store of a process, in its own thread. It is what a worker needs of an [`Opener`], and does not say that a store

@@ -11,12 +11,12 @@ ghost use Rattle.om_cluster.specs.Ends.{IsGiven};
 ghost use Rattle.om_report.specs.Reports.{IsToldReport, IsWholeReport};
 ghost use Rattle.om_runner.specs.Reports.{AreWholeOver};
 
+use om_cluster::{Config, Gate, Opener};
 use om_interval::MAX_PROCESSES;
 use om_observers::Scribe;
 use om_process::Witness;
 use om_report::{FollowFault, FollowedReport, Follower, Report, RunFault};
 use om_worker::WorkerThread;
-use om_worker_parts::{Config, Gate, Opener};
 use std::alloc::Global;
 use std::sync::Wait;
 use std::thread::Threads;

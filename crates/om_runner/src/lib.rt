@@ -21,7 +21,8 @@ pub use om_board::{
     Blank, Board, CAPACITY, Front, Frontier, Inbox, Naming, Pass, PutAnswer, PutPass, Shared,
     TakePass, laws,
 };
+pub use om_cluster::{Config, Gate, OpenFault, Opener};
 pub use om_observers::{Act, Doing, Letter, Progress, Record, Scribe, Sight, Watch};
 pub use om_report::{FollowFault, Follower, Report, RunFault};
-pub use om_worker_parts::{Config, Gate, IDLE_TURNS, OpenFault, Opener};
+pub use om_worker_parts::IDLE_TURNS;
 pub use watched::Watched;

@@ -8,12 +8,12 @@ use Rattle.om_process.specs.declared.image.Image.{Image}
 use Rattle.om_report.specs.Faults.{IsFaultOf, IsFaultBy}
 use Rattle.om_threads.specs.declared.starting.EndOf.{EndOf}
 use Rattle.om_cluster.specs.declared.finished.Finished.{Finished}
-use Rattle.om_worker_parts.specs.declared.config.Config.{Config}
+use Rattle.om_cluster.specs.declared.config.Config.{Config}
 use Rattle.om_report.specs.declared.fault.RunFault.{RunFault}
 use Rattle.om_report.specs.declared.fault.RunFault.TheVariants.{Turns, GateShut, Memory, Fault, Load, StoreInUse, AnotherCluster, StoreMissing, NoThread}
 use Rattle.om_threads.specs.steps.Ends.{AreBelow, AreOwnEnds, IsFirstOut, IsLeastFault, IsPromised, IsWell, IsWellOrOut}
 use Rattle.om_cluster.specs.Ends.{IsEndOf, IsGiven, IsOwnEnd}
-use Rattle.om_worker_parts.specs.Network.{Lines}
+use Rattle.om_links.specs.Network.{Lines}
 
 below_next : (j k : ℕ) → j < k + 1 → (j < k) ⊎ (j ≡ k)
 below_next zero zero lt = inr refl

@@ -22,7 +22,7 @@ use Rattle.om_report.specs.Locks.{UnderLock}
 use Rattle.om_process.specs.Core.{IsEnd}
 use Rattle.om_board.specs.Inboxes.{Traffic, Takings}
 use Rattle.om_cluster.specs.declared.finished.Finished.{Finished}
-use Rattle.om_worker_parts.specs.declared.network.Ends.{Ends}
+use Rattle.om_links.specs.declared.network.Ends.{Ends}
 use Rattle.om_threads.specs.declared.results.Parts.{Parts}
 use Rattle.om_threads.specs.steps.Ends.{AreEndsOf, AreParts}
 use Rattle.om_cluster.specs.Ends.{IsEndOf}
@@ -33,9 +33,9 @@ use Rattle.om_report.specs.declared.followed_outputs.FollowedOutputs.{FollowedOu
 use Rattle.om_report.specs.declared.follower.FollowFault.{FollowFault}
 use Rattle.om_report.specs.declared.report.FollowedReport.{FollowedReport}
 use Rattle.om_report.proofs.FollowLemmas.{none_of, told_to_end, told_within}
-use Rattle.om_worker_parts.specs.Network.{ArePuts, AreTakes, IsNetwork, Lines}
+use Rattle.om_links.specs.Network.{ArePuts, AreTakes, IsNetwork, Lines}
 use Rattle.om_threads.specs.steps.Settling.{ArePasses}
-use Rattle.om_worker_parts.specs.Wiring.{HasEnds, IsWired}
+use Rattle.om_links.specs.Wiring.{HasEnds, IsWired}
 
 -- ---- lists
 pub any_default : {A : Type 0} (xs : List A) (i : ℕ) (d e : A) → i < length xs → get_or xs i d ≡ get_or xs i e

@@ -7,10 +7,10 @@ use Rattle.std.proofs.lemmas.List.FromFn.{get_or-enumerate_from, length-enumerat
 use Rattle.std.proofs.lemmas.Option.{get_or_from_slice_get, same_Some, slice_get_cases, slice_get_read, slice_get_within}
 use Rattle.std.specs.List.{enumerate_from}
 use mathlib.Core.List.{IsPrefix}
-use Rattle.om_worker_parts.proofs.WireLemmas.{same_line}
+use Rattle.om_links.proofs.WireLemmas.{same_line}
 use Rattle.om_report.proofs.HarvestLemmas.{set_apart, set_here}
 use Rattle.om_board.specs.Inboxes.{Line, Traffic, Takings}
-use Rattle.om_worker_parts.specs.Network.{Lines}
+use Rattle.om_links.specs.Network.{Lines}
 use Rattle.om_threads.specs.steps.Settling.{ArePasses, AreSettled, HavePairs, IsRowSettled, StandsAt, with_put}
 
 -- ---- elements of rows

@@ -5,14 +5,13 @@ ghost use Rattle.om_report.specs.Faults.{IsFaultOf};
 ghost use Rattle.om_report.specs.declared.fault.RunFault.TheVariants.{Memory};
 ghost use Rattle.om_threads.specs.steps.Ends.{AreBelow, AreEndsOf, AreOwnEnds, AreParts, HasRoom, IsLeastFault, IsOut, IsWell};
 ghost use Rattle.om_cluster.specs.Ends.{IsGiven};
-ghost use Rattle.om_worker_parts.specs.Network.{IsNetwork};
+ghost use Rattle.om_links.specs.Network.{IsNetwork};
 
 use om_board::{Naming, PutPass, TakePass};
-use om_cluster::{Cluster, Finished};
+use om_cluster::{Cluster, Finished, Opener};
 use om_process::{Status, Witness};
 use om_report::{Harvest, RunFault};
 use om_stable::Stable;
-use om_worker_parts::Opener;
 use std::alloc::{AllocError, Global};
 use std::sync::Wait;
 

@@ -10,19 +10,19 @@ ghost use Rattle.om_threads.specs.steps.Ends.{AreEndsOf, AreOwnEnds, IsPromised}
 ghost use Rattle.om_cluster.specs.Ends.{IsEndOf, IsOwnEnd};
 ghost use Rattle.om_node.specs.Nodes.{AreAlwaysClean};
 ghost use Rattle.om_threads.specs.steps.Starting.{CanStart, IsNamedFor};
-ghost use Rattle.om_worker_parts.specs.Network.{IsNetwork};
-ghost use Rattle.om_worker_parts.specs.Wiring.{HasEnds};
+ghost use Rattle.om_links.specs.Network.{IsNetwork};
+ghost use Rattle.om_links.specs.Wiring.{HasEnds};
 
 use crate::main_task::MainTask;
 use om_board::{Bell, Inbox, Naming, Pass};
-use om_cluster::{Cluster, Finished, Job, ProcessThread, stop_all};
+use om_cluster::{Cluster, Config, Finished, Gate, Job, Opener, ProcessThread, stop_all};
 use om_interval::Pid;
+use om_links::{Ends, Links};
 use om_node::{FlightChannel, SentStore, flight_channel, write_all};
 use om_process::Image;
 use om_report::RunFault;
 use om_stable::Stable;
 use om_tickets::{Opened, Series};
-use om_worker_parts::{Config, Ends, Gate, Links, Opener};
 use std::marker::{Brand, PhantomData};
 use std::sync::Wait;
 use std::thread;

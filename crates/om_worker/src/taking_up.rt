@@ -13,7 +13,7 @@ ghost use Rattle.om_worker.specs.steps.Refusals.{refusal_of_found, refusal_of_op
 
 use crate::worker::Worker;
 use om_board::Naming;
-use om_cluster::{Census, Cluster, StoreMaker};
+use om_cluster::{Census, Cluster, OpenFault, StoreMaker};
 use om_interval::{MAX_PROCESSES, Pid};
 use om_look::about_of;
 use om_node::{DownNode, FlightChannel};
@@ -22,7 +22,7 @@ use om_report::RunFault;
 use om_restart::{FindFault, Found, find};
 use om_stable::{Ledger, LedgerTable, StoreError};
 use om_tickets::Series;
-use om_worker_parts::{OpenFault, load_fault, run_fault};
+use om_worker_parts::{load_fault, run_fault};
 use std::alloc::{AllocError, Global};
 use std::sync::Wait;
 use std::sync::atomic::AtomicU64;

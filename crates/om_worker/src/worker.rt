@@ -8,14 +8,16 @@ ghost use Rattle.om_worker_parts.specs.Acts.{HasReleasedAnother};
 ghost use Rattle.om_report.specs.Locks.{UnderLock};
 ghost use Rattle.om_worker_parts.specs.Places.{IsProcessOf, IsLanded, member_of, IsLandedAt};
 ghost use Rattle.om_worker.specs.steps.Turning.{HasNothingToSay, HasReported, HasRun, IsOffered, IsTurnOf};
-ghost use Rattle.om_worker_parts.specs.Wiring.{HasEnds};
+ghost use Rattle.om_links.specs.Wiring.{HasEnds};
 
 mod resting;
 mod rounds;
 mod storing;
 
 use om_board::{Naming, Pass, Shared};
+use om_cluster::Config;
 use om_interval::Pid;
+use om_links::{Ends, Links, Taken};
 use om_node::{Kept, Node, WorkerFault};
 use om_observers::{Diary, Observers, Past, Sight, Watch};
 use om_process::{Accept, ProcCore, Status, Witness};
@@ -25,8 +27,7 @@ use om_stable::{Ledger, Stable};
 use om_storing::Storing;
 use om_tickets::Series;
 use om_worker_parts::{
-    Barrier, Config, Ends, Idle, Links, ManagerLink, ManagerPhase, Pause, SpinPolicy, Taken,
-    TurnOutcome, WorkerState,
+    Barrier, Idle, ManagerLink, ManagerPhase, Pause, SpinPolicy, TurnOutcome, WorkerState,
 };
 use std::alloc::Global;
 use std::sync::Wait;

@@ -3,7 +3,7 @@ use Rattle.std.specs.Prelude.{◌≡◌, ℕ, ◌<◌, ◌≤◌, ◌+◌, All, 
 use Rattle.om_process.specs.Images.{program_of}
 use Rattle.om_process.specs.declared.image.Image.{Image}
 use Rattle.om_process.specs.Core.{IsEnd}
-use Rattle.om_worker_parts.specs.declared.config.Config.{Config}
+use Rattle.om_cluster.specs.declared.config.Config.{Config}
 use Rattle.om_report.specs.declared.fault.RunFault.{RunFault}
 use Rattle.om_report.specs.declared.fault.RunFault.TheVariants.{Turns, GateShut, Memory, Fault, Load, StoreInUse, AnotherCluster, StoreMissing, NoThread}
 use Rattle.om_report.specs.Harvests.{AreOwn, harvested}
@@ -12,7 +12,7 @@ use Rattle.om_threads.specs.declared.results.Parts.{Parts}
 use Rattle.om_threads.specs.declared.starting.EndOf.{EndOf}
 use Rattle.om_threads.specs.steps.Settling.{ArePasses}
 use Rattle.om_cluster.specs.declared.finished.Finished.{Finished}
-use Rattle.om_worker_parts.specs.Network.{Lines}
+use Rattle.om_links.specs.Network.{Lines}
 use Rattle.om_cluster.specs.Ends.{IsEndOf, IsOwnEnd}
 
 -- what the workers of a cluster of these images brought back, when each had ended well

@@ -3,7 +3,7 @@ use Rattle.std.specs.Prelude.{◌≡◌, ◌≢◌, ℕ, ◌<◌, ◌≤◌, Lis
 use Rattle.std.specs.declared.alloc.Global.{Global}
 use mathlib.Core.List.{IsPrefix}
 use Rattle.om_board.specs.Inboxes.{Line, Traffic, Takings}
-use Rattle.om_worker_parts.specs.Network.{ArePuts, AreTakes, IsNetwork, Lines}
+use Rattle.om_links.specs.Network.{ArePuts, AreTakes, IsNetwork, Lines}
 
 -- the element at a place of a row
 abbrev pub StandsAt : {A : Type 0} → List (Vec A Global) → ℕ → ℕ → A → Type 0

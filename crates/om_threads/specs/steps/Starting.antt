@@ -5,9 +5,9 @@ use Rattle.om_process.specs.Images.{program_of}
 use Rattle.om_process.specs.Process.{Program}
 use Rattle.om_process.specs.declared.image.Image.{Image}
 use Rattle.om_node.specs.Nodes.{AreAlwaysClean}
-use Rattle.om_worker_parts.specs.Network.{Lines}
-use Rattle.om_worker_parts.specs.Wiring.{IsWired}
-use Rattle.om_worker_parts.specs.declared.network.Ends.{Ends}
+use Rattle.om_links.specs.Network.{Lines}
+use Rattle.om_links.specs.Wiring.{IsWired}
+use Rattle.om_links.specs.declared.network.Ends.{Ends}
 
 -- what a cluster is named for is so of it: it has n processes, they run these programs, and their stores are clean where that is said
 pub record IsNamedFor {S : Type 0} (is_clean : S → Bool) (over_clean : Type 0) (programs : List Program) (n : ℕ) (images : List Image) : Type 0 where

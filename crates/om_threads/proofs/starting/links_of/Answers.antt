@@ -1,6 +1,6 @@
 use Rattle.std.proofs.Common.{◌∙◌, sym, subst, ◌<◌, ◌≤◌, rules}
 use Rattle.om_interval.specs.declared.pid.TheConstants.{MAX_PROCESSES}
-use Rattle.om_worker_parts.specs.Network.{ArePuts, AreTakes, IsNetwork}
+use Rattle.om_links.specs.Network.{ArePuts, AreTakes, IsNetwork}
 use Rattle.om_threads.proofs.starting.links_of.Goals as goal
 
 pub new-requires-clause-own : goal.new-requires-clause-own

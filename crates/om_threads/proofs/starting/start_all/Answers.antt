@@ -4,7 +4,7 @@ use Rattle.std.proofs.lemmas.Option.{slice_get_read}
 use Rattle.om_process.specs.Images.{program_of}
 use Rattle.om_board.proofs.ListLemmas.{map_get}
 use Rattle.std.specs.Vec.Iter.{into_iter_items, into_iter_len}
-use Rattle.om_worker_parts.specs.Wiring.{HasEnds}
+use Rattle.om_links.specs.Wiring.{HasEnds}
 use Rattle.om_threads.specs.steps.Ends.{IsPromised}
 use Rattle.om_threads.proofs.ReportLemmas.{any_default, each_more, ends_at, next_of}
 use Rattle.om_threads.proofs.starting.start_all.Goals as goal

@@ -2,7 +2,7 @@ use Rattle.std.specs.Prelude.{◌≡◌, ℕ, ◌+◌, ◌<◌, ◌≤◌, get_o
 use Rattle.std.specs.Vec.Iter.{into_iter_items, into_iter_len}
 use Rattle.om_process.specs.declared.image.Image.{Image}
 use Rattle.om_threads.specs.steps.Ends.{IsPromised}
-use Rattle.om_worker_parts.specs.Wiring.{HasEnds}
+use Rattle.om_links.specs.Wiring.{HasEnds}
 use Rattle.om_threads.proofs.starting.start_all.Given as goal
 
 abbrev pub invariant-loop-one : goal.invariant-loop-one
