@@ -5,13 +5,25 @@ use Rattle.std.specs.declared.alloc.Global.{Global}
 use Rattle.std.proofs.Math.Seq.{map-set_same}
 use Rattle.std.proofs.lemmas.List.{map-set, length-map}
 use Rattle.std.proofs.lemmas.Option.{same_Some, slice_get_cases, slice_get_within}
-use Rattle.om_report.proofs.HarvestLemmas.{set_apart, set_here}
 use Rattle.om_board.specs.Inboxes.{Line, Traffic, Takings}
 use Rattle.om_links.specs.declared.network.Ends.{Ends}
 use Rattle.om_links.specs.Network.{IsAt, Lines}
 use Rattle.om_links.specs.steps.Rows.{AreRows, HavePuts, IsRow, all_put, all_taken, grown_at, lines_put, lines_taken, with_row, with_rows}
 use Rattle.om_links.specs.Wiring.{HasEnds, IsWired}
 use Rattle.om_board.proofs.ListLemmas.{map_get, map_had, more_had, none_in}
+
+-- ---- an element that was set
+set_here : {A : Type 0} (xs : List A) (i : ℕ) (y : A) → i < length xs → slice_get (set xs i y) i ≡ Some y
+set_here [] i y lt = absurd (omega arith)
+set_here (x ∷ xs) zero y lt = refl
+set_here (x ∷ xs) (suc i) y lt = set_here xs i y (omega arith)
+
+set_apart : {A : Type 0} (xs : List A) (i j : ℕ) (y : A) → j ≢ i → slice_get (set xs i y) j ≡ slice_get xs j
+set_apart [] i j y ne = refl
+set_apart (x ∷ xs) zero zero y ne = absurd (ne refl)
+set_apart (x ∷ xs) zero (suc j) y ne = refl
+set_apart (x ∷ xs) (suc i) zero y ne = refl
+set_apart (x ∷ xs) (suc i) (suc j) y ne = set_apart xs i j y (omega arith)
 
 -- ---- one list of each process
 -- setting one end whose passes to take have one more
