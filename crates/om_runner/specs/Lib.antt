@@ -1,4 +1,3 @@
 pub mod Released
 pub mod Reports
 pub mod Telling
-pub mod steps

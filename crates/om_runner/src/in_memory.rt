@@ -1,8 +1,8 @@
 //! Stores in memory, for a run.
 
+use om_cluster::{OpenFault, Opener};
 use om_interval::Pid;
 use om_stable::MemStable;
-use om_worker_parts::{OpenFault, Opener};
 use std::alloc::Global;
 
 /// Makes stores in memory, which are gone when the run is.

@@ -1,8 +1,8 @@
 //! Stores of a cluster that is watched.
 
+use om_cluster::{OpenFault, Opener};
 use om_interval::Pid;
 use om_observers::Watch;
-use om_worker_parts::{OpenFault, Opener};
 use std::alloc::Global;
 
 /// Makes the stores that `opener` makes, for processes that are watched, where they are to be.

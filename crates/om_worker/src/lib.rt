@@ -6,20 +6,15 @@
 //!
 //! In an order of reading:
 //!
-//! - `ground`: what all threads have in common; `working`: what each does, from the gate to the end; `finished`: what it brings back
+//! - `working`: what the thread of a process does, from the gate to the end (om_cluster: what all threads share, and what each owes)
 //! - `taking_up`: how a process is taken up from what an earlier run left
 //! - `turns` and `worker`: what a thread does, turn by turn; `worker::rounds`, `worker::storing`, `worker::resting`
 //! - what a worker has: its node (om_node), its way to the manager and its ends of inboxes (om_worker_parts)
 #![tactic(auto)]
 
-mod finished;
-mod ground;
 mod taking_up;
 mod turns;
 mod worker;
 mod working;
 
-pub use finished::Finished;
-pub use ground::{Cluster, Ground, ground_of, stop_all};
-pub use taking_up::Census;
-pub use working::{Job, work_or_stop};
+pub use working::WorkerThread;

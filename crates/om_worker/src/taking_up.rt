@@ -11,9 +11,9 @@ ghost use Rattle.om_report.specs.Faults.{IsFaultBy};
 ghost use Rattle.om_node.specs.Nodes.{AreAlwaysClean};
 ghost use Rattle.om_worker.specs.steps.Refusals.{refusal_of_found, refusal_of_opening};
 
-use crate::ground::Cluster;
 use crate::worker::Worker;
 use om_board::Naming;
+use om_cluster::{Census, Cluster, OpenFault, StoreMaker};
 use om_interval::{MAX_PROCESSES, Pid};
 use om_look::about_of;
 use om_node::{DownNode, FlightChannel};
@@ -22,53 +22,30 @@ use om_report::RunFault;
 use om_restart::{FindFault, Found, find};
 use om_stable::{Ledger, LedgerTable, StoreError};
 use om_tickets::Series;
-use om_worker_parts::{OpenFault, Opener, load_fault, run_fault};
+use om_worker_parts::{load_fault, run_fault};
 use std::alloc::{AllocError, Global};
 use std::sync::Wait;
 use std::sync::atomic::AtomicU64;
 use std::sync::atomic::Ordering::SeqCst;
 use std::time::Clock;
 
-/// Counts how far the processes have come that look at their stores.
-#[derive(Drop)]
-pub struct Census {
-    // How many stores are opened. That of process 0 is the first: of two programs over the same stores one is refused there, before
-    // it has touched another.
-    opened: AtomicU64,
-    // How many processes have looked, and found nothing that is refused.
-    looked: AtomicU64,
-    // How many of these hold more than a start.
-    beyond: AtomicU64,
+// Counts a store that is opened.
+fn count_opened(census: &Census) {
+    census.opened.fetch_add(1, SeqCst);
 }
 
-impl Census {
-    // Makes the census of a run in which nobody has looked.
-    pub(crate) fn new() -> Census {
-        Census {
-            opened: AtomicU64::new(0),
-            looked: AtomicU64::new(0),
-            beyond: AtomicU64::new(0),
-        }
+// Counts a process that has looked, and found this. What lies beyond a start is counted first: who sees that all have looked
+// sees it too.
+fn count_looked(census: &Census, found: &Found) {
+    if found.is_beyond_start() {
+        census.beyond.fetch_add(1, SeqCst);
     }
+    census.looked.fetch_add(1, SeqCst);
+}
 
-    // Counts a store that is opened.
-    fn open(&self) {
-        self.opened.fetch_add(1, SeqCst);
-    }
-
-    // Counts a process that has looked, and found this. What lies beyond a start is counted first: who sees that all have looked
-    // sees it too.
-    fn look(&self, found: &Found) {
-        if found.is_beyond_start() {
-            self.beyond.fetch_add(1, SeqCst);
-        }
-        self.looked.fetch_add(1, SeqCst);
-    }
-
-    // Returns whether a store that has no checkpoint was lost: others hold more than a start.
-    fn misses(&self, found: &Found) -> bool {
-        !found.is_begun() && self.beyond.load(SeqCst) > 0
-    }
+// Returns whether a store that has no checkpoint was lost: others hold more than a start.
+fn is_lost(census: &Census, found: &Found) -> bool {
+    !found.is_begun() && census.beyond.load(SeqCst) > 0
 }
 
 // Returns why a store is not taken up, as the run's caller is told.
@@ -110,7 +87,7 @@ fn put_fault(error: StoreError, pid: Pid) -> RunFault
 }
 
 // Waits until so many are counted, for at most so many turns, and says how many are left.
-fn wait_for<'a, K: Naming, R: Wait + Clock, G, O: Opener<R>>(
+fn wait_for<'a, K: Naming, R: Wait + Clock, G, O: StoreMaker<R>>(
     cluster: &Cluster<'a, K, R, G, O>,
     worker: &mut Worker<'a, K>,
     count: &AtomicU64,
@@ -137,7 +114,7 @@ fn wait_for<'a, K: Naming, R: Wait + Clock, G, O: Opener<R>>(
 }
 
 // Opens the store of a process.
-fn opened<'a, K: Naming, R: Wait + Clock, G, O: Opener<R>>(
+fn opened<'a, K: Naming, R: Wait + Clock, G, O: StoreMaker<R>>(
     cluster: &Cluster<'a, K, R, G, O>,
     worker: &mut Worker<'a, K>,
 ) -> Result<O::Store, RunFault>
@@ -145,9 +122,9 @@ fn opened<'a, K: Naming, R: Wait + Clock, G, O: Opener<R>>(
     ensures fault { IfErr result (IsFaultBy worker.old.links.ends.own) }
 {
     let pid = worker.pid();
-    match cluster.opener.make(cluster.rt, cluster.alloc, pid) {
+    match cluster.opener.make_store(cluster.rt, cluster.alloc, pid) {
         Ok(store) => {
-            cluster.census.open();
+            count_opened(cluster.census);
             worker.wake_all();
             Ok(store)
         }
@@ -156,7 +133,7 @@ fn opened<'a, K: Naming, R: Wait + Clock, G, O: Opener<R>>(
 }
 
 // Looks at the store of a process, and counts what was found.
-fn looked_at<'a, K: Naming, R: Wait + Clock, G, O: Opener<R>>(
+fn looked_at<'a, K: Naming, R: Wait + Clock, G, O: StoreMaker<R>>(
     cluster: &Cluster<'a, K, R, G, O>,
     worker: &mut Worker<'a, K>,
     image: &'a Image,
@@ -169,7 +146,7 @@ fn looked_at<'a, K: Naming, R: Wait + Clock, G, O: Opener<R>>(
     let (pid, n) = (worker.pid(), worker.n());
     match find(cluster.alloc, store, pid, n, image) {
         Ok(found) => {
-            cluster.census.look(&found);
+            count_looked(cluster.census, &found);
             worker.wake_all();
             Ok(found)
         }
@@ -235,7 +212,7 @@ fn make_missing<S: Ledger>(
 }
 
 // Waits until all have looked at their stores, and makes what this one lacks of a start. Returns how many turns are left.
-fn complete<'a, K: Naming, R: Wait + Clock, G, O: Opener<R>>(
+fn complete<'a, K: Naming, R: Wait + Clock, G, O: StoreMaker<R>>(
     cluster: &Cluster<'a, K, R, G, O>,
     worker: &mut Worker<'a, K>,
     image: &'a Image,
@@ -251,7 +228,7 @@ fn complete<'a, K: Naming, R: Wait + Clock, G, O: Opener<R>>(
     let (pid, n) = (worker.pid(), worker.n());
     let census = cluster.census;
     let left = wait_for(cluster, worker, &census.looked, n as u64, turns)?;
-    if census.misses(found) {
+    if is_lost(census, found) {
         return Err(RunFault::StoreMissing(pid));
     }
     make_missing(cluster.alloc, store, found, image, pid, n)?;
@@ -259,7 +236,7 @@ fn complete<'a, K: Naming, R: Wait + Clock, G, O: Opener<R>>(
 }
 
 // Looks at the store of a process, completes it, and tells the manager what it holds. Returns how many turns are left.
-fn take_in<'a, K: Naming, R: Wait + Clock, G, O: Opener<R>>(
+fn take_in<'a, K: Naming, R: Wait + Clock, G, O: StoreMaker<R>>(
     cluster: &Cluster<'a, K, R, G, O>,
     worker: &mut Worker<'a, K>,
     image: &'a Image,
@@ -290,7 +267,7 @@ fn take_in<'a, K: Naming, R: Wait + Clock, G, O: Opener<R>>(
 }
 
 // Opens the store of a process behind that of process 0, and takes it in. Returns how many turns are left beside it.
-fn taken_in<'a, K: Naming, R: Wait + Clock, G, O: Opener<R>>(
+fn taken_in<'a, K: Naming, R: Wait + Clock, G, O: StoreMaker<R>>(
     cluster: &Cluster<'a, K, R, G, O>,
     worker: &mut Worker<'a, K>,
     image: &'a Image,
@@ -317,7 +294,7 @@ fn taken_in<'a, K: Naming, R: Wait + Clock, G, O: Opener<R>>(
 
 // Takes up what an earlier run left of a process, or starts one where it left nothing, and tells the manager what its store holds.
 // Returns the process, which is down, and how many turns are left. That it failed is still to be told.
-pub(crate) fn take_up<'a, K: Naming, J: Series, R: Wait + Clock, G, O: Opener<R>>(
+pub(crate) fn take_up<'a, K: Naming, J: Series, R: Wait + Clock, G, O: StoreMaker<R>>(
     cluster: &Cluster<'a, K, R, G, O>,
     worker: &mut Worker<'a, K>,
     image: &'a Image,

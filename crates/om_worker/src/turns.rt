@@ -3,14 +3,14 @@
 ghost use Rattle.std.specs.Prelude.{◌≡◌, ◌<◌, ◌≤◌, All, false, IfErr, IfOk, IsTrue, OnOk, length};
 ghost use Rattle.om_node.specs.Ends.{IsWholeRun};
 ghost use Rattle.om_process.specs.Core.{IsEnd};
-ghost use Rattle.om_worker.specs.Ends.{IsEndOf};
+ghost use Rattle.om_cluster.specs.Ends.{IsEndOf};
 ghost use Rattle.om_report.specs.Faults.{IsFaultBy};
 ghost use Rattle.om_worker.specs.steps.Turning.{IsTurned};
 ghost use Rattle.om_worker_parts.specs.Places.{IsProcessOf, IsLanded, member_of};
 
-use crate::finished::Finished;
 use crate::worker::Worker;
 use om_board::{Naming, Pass};
+use om_cluster::Finished;
 use om_node::Node;
 use om_process::Status;
 use om_report::{Harvest, RunFault};

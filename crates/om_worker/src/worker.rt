@@ -8,24 +8,26 @@ ghost use Rattle.om_worker_parts.specs.Acts.{HasReleasedAnother};
 ghost use Rattle.om_report.specs.Locks.{UnderLock};
 ghost use Rattle.om_worker_parts.specs.Places.{IsProcessOf, IsLanded, member_of, IsLandedAt};
 ghost use Rattle.om_worker.specs.steps.Turning.{HasNothingToSay, HasReported, HasRun, IsOffered, IsTurnOf};
-ghost use Rattle.om_worker_parts.specs.Wiring.{HasEnds};
+ghost use Rattle.om_links.specs.Wiring.{HasEnds};
 
 mod resting;
 mod rounds;
 mod storing;
 
 use om_board::{Naming, Pass, Shared};
+use om_cluster::Config;
 use om_interval::Pid;
-use om_node::{Due, Kept, Node, WorkerFault};
+use om_links::{Ends, Links, Taken};
+use om_node::{Kept, Node, WorkerFault};
 use om_observers::{Diary, Observers, Past, Sight, Watch};
-use om_process::{Accept, PendingRow, ProcCore, Status, Witness};
+use om_process::{Accept, ProcCore, Status, Witness};
 use om_report::Harvest;
 use om_restart::Found;
 use om_stable::{Ledger, Stable};
+use om_storing::Storing;
 use om_tickets::Series;
 use om_worker_parts::{
-    Barrier, Config, Ends, Idle, Links, ManagerLink, ManagerPhase, Pause, SpinPolicy, Taken,
-    TurnOutcome, WorkerState,
+    Barrier, Idle, ManagerLink, ManagerPhase, Pause, SpinPolicy, TurnOutcome, WorkerState,
 };
 use std::alloc::Global;
 use std::sync::Wait;
@@ -36,9 +38,6 @@ const ALL_TURNS: u64 = u64::MAX;
 
 // How many turns a process takes at most before it is let go of, and its worker looks whether all are to stop.
 const ROW: u64 = 16;
-
-// How many receipts of a log are stored where all are.
-const ALL_RECEIPTS: usize = usize::MAX;
 
 // A worker, but for its process. At a `WorkerFault` the process is dropped by a call, since at the end of a scope each of its parts
 // would be, which the prover goes through one by one.
@@ -51,14 +50,7 @@ pub(crate) struct Worker<'a, K: Naming> {
     // The intervals at which the process is still to fail.
     kills: Vec<u32>,
     past: Past,
-    // How much of that stands in the store, where a run may take it up.
-    kept: Option<Kept>,
-    // What the store is to be given and to drop with what is stored next.
-    due: Option<Due>,
-    // How far the process has handed over what it received.
-    handed: Handed,
-    // Whether a flight is under way.
-    is_away: bool,
+    storing: Storing,
     diary: Diary<'a>,
     // Who sees what the process does.
     watch: Option<&'a Watch>,
@@ -76,42 +68,6 @@ pub(crate) struct Worker<'a, K: Naming> {
     left: u64,
     ghost linked: { links.ends.own ≡ manager_link.pid },
     ghost many: { links.ends.n ≡ K.cell.n },
-}
-
-// How far a process whose store is slow has handed over what it received, and its checkpoints.
-#[derive(Clone, Copy, Drop)]
-struct Handed {
-    // The last interval whose receipt was handed over, or stored otherwise.
-    receipts: u32,
-    // The interval of the last checkpoint.
-    checkpoint: u32,
-}
-
-impl Handed {
-    // Makes what a process at its start has handed over: its checkpoint is stored.
-    fn new() -> Handed {
-        Handed {
-            receipts: 0,
-            checkpoint: 0,
-        }
-    }
-
-    // Notes that the process was rolled back to interval `r`.
-    fn cut(&mut self, r: u32) {
-        self.receipts = r;
-        self.checkpoint = self.checkpoint.min(r);
-    }
-}
-
-// Returns the interval of the last checkpoint among these rows, 0 where there is none.
-fn last_checkpoint(rows: &[PendingRow]) -> u32 {
-    let mut last = 0;
-    for row in rows {
-        if row.ckpt {
-            last = last.max(row.x);
-        }
-    }
-    last
 }
 
 impl<'a, K: Naming> Worker<'a, K> {
@@ -135,10 +91,7 @@ impl<'a, K: Naming> Worker<'a, K> {
             barrier,
             kills,
             past: Past::new(alloc, observers.keeps_witness),
-            kept: None,
-            due: None,
-            handed: Handed::new(),
-            is_away: false,
+            storing: Storing::new(),
             diary: Diary::new(alloc, own, observers),
             watch: observers.watch,
             idle: Idle::new(),
@@ -180,15 +133,15 @@ impl<'a, K: Naming> Worker<'a, K> {
         requires { K.OverClean → ⊥ }
         ensures same { self.new.links.ends ≡ self.old.links.ends }
         ensures past { OnOk result (self.new.past ≡ record { keeps = true; senders = found.senders.items; count = 0 }) }
-        ensures kept { OnOk result (self.new.kept ≡ Some (record { outputs = length found.outputs.items; senders = found.kept })) }
+        ensures kept { OnOk result (self.new.storing.kept ≡ Some (record { outputs = length found.outputs.items; senders = found.kept })) }
     {
         self.manager_link
             .take_up(rt, alloc, &found.rows, &found.outputs)?;
-        self.kept = Some(Kept {
+        let kept = Kept {
             outputs: found.outputs.len() as u64,
             senders: found.kept,
-        });
-        self.handed.checkpoint = last_checkpoint(&found.rows);
+        };
+        self.storing.take_up(kept, &found.rows);
         self.past = Past::taken_up(found.senders);
         Ok(())
     }
@@ -416,11 +369,11 @@ impl<'a, K: Naming> Worker<'a, K> {
         ensures member { node.new.member ≡ node.old.member }
         ensures landed { IfOk result (λ turn_outcome. IsLandedAt turn_outcome node.new) }
     {
-        self.look(rt, node)?;
+        self.storing.look(rt, node, &mut self.diary)?;
         match self.advance(rt, alloc, node)? {
             TurnOutcome::Up => Ok(TurnOutcome::Up),
             turn_outcome => {
-                self.recall(rt, node)?;
+                self.storing.recall(rt, node, &mut self.diary)?;
                 Ok(turn_outcome)
             }
         }
@@ -444,7 +397,9 @@ impl<'a, K: Naming> Worker<'a, K> {
         match phase {
             ManagerPhase::Closed => {
                 if !status.has_ended() {
-                    self.launch(rt, alloc, node)?;
+                    let (flush, checkpoint) = (self.config.flush, self.config.checkpoint);
+                    self.storing
+                        .launch(rt, alloc, node, &mut self.diary, flush, checkpoint)?;
                 }
                 self.receive(rt, alloc, node, status)
             }
@@ -520,10 +475,9 @@ impl<'a, K: Naming> Worker<'a, K> {
         ensures log { OnOk result (node.new.core.log ≡ []) }
         ensures landed { OnOk result (node.new.away ≡ false) }
     {
-        self.recall(rt, node)?;
-        node.flush(alloc)?;
+        self.storing.recall(rt, node, &mut self.diary)?;
+        self.storing.flush(alloc, node)?;
         self.diary.stored_all();
-        self.handed.receipts = node.core().interval();
         Ok(())
     }
 
@@ -574,7 +528,8 @@ impl<'a, K: Naming> Worker<'a, K> {
             .manager_link
             .meet(rt, alloc, node, ended, is_patient, &mut self.diary)?;
         let is_trimmed = limits.is_some();
-        self.apply_limits(alloc, node, limits, ended)?;
+        self.storing
+            .apply_limits(alloc, node, limits, ended, self.past.senders())?;
         self.drop_untaken(node, is_trimmed);
         Ok(phase)
     }

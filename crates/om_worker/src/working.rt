@@ -5,38 +5,43 @@ ghost use Rattle.om_process.specs.Images.{program_of};
 ghost use Rattle.om_process.specs.declared.image.Image.{Image};
 ghost use Rattle.om_report.specs.declared.fault.RunFault.TheVariants.{Memory};
 ghost use Rattle.om_node.specs.Stores.{AreNeverClean};
-ghost use Rattle.om_worker.specs.Ends.{IsEndOf, IsOwnEnd};
+ghost use Rattle.om_cluster.specs.Ends.{IsEndOf, IsOwnEnd};
 ghost use Rattle.om_report.specs.Faults.{IsFaultBy};
 ghost use Rattle.om_node.specs.Nodes.{AreAlwaysClean};
 
-use crate::finished::Finished;
-use crate::ground::{Cluster, stop_all};
 use crate::taking_up::{open_fault, take_up};
 use crate::turns::take_turns;
 use crate::worker::Worker;
-use om_board::{Naming, Pass};
+use om_board::Naming;
+use om_cluster::{Cluster, Finished, Gate, Job, ProcessThread, StoreMaker, stop_all};
 use om_interval::Pid;
 use om_node::{FlightChannel, Node};
 use om_process::Image;
 use om_report::RunFault;
-use om_stable::Stable;
 use om_tickets::Series;
-use om_worker_parts::{Barrier, Gate, Links, Opener, WorkerState, load_fault};
+use om_worker_parts::{Barrier, WorkerState, load_fault};
 use std::alloc::{AllocError, Global};
 use std::sync::Wait;
 use std::thread;
 use std::time::Clock;
 
-/// Holds what a worker begins with.
+/// The thread of a process in which a worker runs it, turn by turn.
 #[derive(Drop)]
-pub struct Job<'a, K: Naming, J: Series, S: Stable> {
-    /// The ends of its process.
-    pub links: Links<'a>,
-    /// What it has seen of the fronts.
-    pub pass: Pass<K>,
-    /// Where stores are slow, the way to the thread that writes that of the process.
-    pub channel: Option<FlightChannel<J, S>>,
-    ghost sized: { links.ends.n ≡ K.cell.n },
+pub struct WorkerThread;
+
+impl ProcessThread for WorkerThread {
+    fn run<'a, K: Naming, J: Series, R: Wait + Clock, G: Gate, O: StoreMaker<R>>(
+        cluster: &Cluster<'a, K, R, G, O>,
+        image: &'a Image,
+        job: Job<'a, K, J, O::Store>,
+    ) -> Result<Finished<K, O::Store>, RunFault> {
+        let result = work(cluster, image, job);
+        if result.is_err() {
+            stop_all(cluster);
+        }
+        cluster.observers.end();
+        result
+    }
 }
 
 // Asks the gate until it lets the process start.
@@ -54,7 +59,7 @@ fn pass_gate<G: Gate>(gate: &G, gate_turns: u64, pid: Pid) -> Result<(), RunFaul
 }
 
 // Makes a process, over a store of its own.
-fn begin<'a, J: Series, R, O: Opener<R>>(
+fn begin<'a, J: Series, R, O: StoreMaker<R>>(
     rt: &R,
     alloc: Global,
     opener: &O,
@@ -66,7 +71,7 @@ fn begin<'a, J: Series, R, O: Opener<R>>(
     ensures member { IfOk result (λ node. node.member ≡ record { program = program_of image.entry.now; own = pid; n = n }) }
     ensures fault { IfErr result (IsFaultBy pid) }
 {
-    let store = match opener.make(rt, alloc, pid) {
+    let store = match opener.make_store(rt, alloc, pid) {
         Ok(store) => store,
         Err(fault) => return Err(open_fault(fault, pid)),
     };
@@ -77,7 +82,7 @@ fn begin<'a, J: Series, R, O: Opener<R>>(
 }
 
 // Asks the gate until it lets the process start, and returns the intervals at which that is to fail.
-fn admitted<'a, K: Naming, R: Wait, G: Gate, O: Opener<R>>(
+fn admitted<'a, K: Naming, R: Wait, G: Gate, O: StoreMaker<R>>(
     cluster: &Cluster<'a, K, R, G, O>,
     pid: Pid,
 ) -> Result<Vec<u32>, RunFault>
@@ -93,7 +98,7 @@ fn admitted<'a, K: Naming, R: Wait, G: Gate, O: Opener<R>>(
 }
 
 // Starts a process once the gate lets it, and returns it with the intervals at which it is to fail.
-fn admit<'a, K: Naming, J: Series, R: Wait, G: Gate, O: Opener<R>>(
+fn admit<'a, K: Naming, J: Series, R: Wait, G: Gate, O: StoreMaker<R>>(
     cluster: &Cluster<'a, K, R, G, O>,
     image: &'a Image,
     pid: Pid,
@@ -119,7 +124,7 @@ fn admit<'a, K: Naming, J: Series, R: Wait, G: Gate, O: Opener<R>>(
 }
 
 // Does what the thread of a process does that starts over a store that holds nothing.
-fn work_anew<'a, K: Naming, J: Series, R: Wait + Clock, G: Gate, O: Opener<R>>(
+fn work_anew<'a, K: Naming, J: Series, R: Wait + Clock, G: Gate, O: StoreMaker<R>>(
     cluster: &Cluster<'a, K, R, G, O>,
     image: &'a Image,
     job: Job<'a, K, J, O::Store>,
@@ -162,7 +167,7 @@ fn work_anew<'a, K: Naming, J: Series, R: Wait + Clock, G: Gate, O: Opener<R>>(
 }
 
 // Does what the thread of a process does that is taken up from what an earlier run left of it.
-fn work_on<'a, K: Naming, J: Series, R: Wait + Clock, G: Gate, O: Opener<R>>(
+fn work_on<'a, K: Naming, J: Series, R: Wait + Clock, G: Gate, O: StoreMaker<R>>(
     cluster: &Cluster<'a, K, R, G, O>,
     image: &'a Image,
     job: Job<'a, K, J, O::Store>,
@@ -184,7 +189,7 @@ fn work_on<'a, K: Naming, J: Series, R: Wait + Clock, G: Gate, O: Opener<R>>(
 }
 
 // The same, once the gate has let it, with the intervals at which it is to fail.
-fn work_from<'a, K: Naming, J: Series, R: Wait + Clock, G: Gate, O: Opener<R>>(
+fn work_from<'a, K: Naming, J: Series, R: Wait + Clock, G: Gate, O: StoreMaker<R>>(
     cluster: &Cluster<'a, K, R, G, O>,
     image: &'a Image,
     job: Job<'a, K, J, O::Store>,
@@ -235,7 +240,7 @@ fn work_from<'a, K: Naming, J: Series, R: Wait + Clock, G: Gate, O: Opener<R>>(
 }
 
 // Does what the thread of a process does.
-fn work<'a, K: Naming, J: Series, R: Wait + Clock, G: Gate, O: Opener<R>>(
+fn work<'a, K: Naming, J: Series, R: Wait + Clock, G: Gate, O: StoreMaker<R>>(
     cluster: &Cluster<'a, K, R, G, O>,
     image: &'a Image,
     job: Job<'a, K, J, O::Store>,
@@ -246,32 +251,11 @@ fn work<'a, K: Naming, J: Series, R: Wait + Clock, G: Gate, O: Opener<R>>(
         IfOk result (λ f. IsEndOf O.Store.is_clean (program_of image.entry.now) l.lines l.own l.n f) }
     ensures own { IsOwnEnd cluster.now.config.now job.entry.links.ends.own result }
 {
-    if cluster.opener.resumes() {
+    if cluster.opener.takes_up() {
         work_on(cluster, image, job)
     } else {
         work_anew(cluster, image, job)
     }
-}
-
-/// Does what the thread of a process does. Where it ends with a fault, the others are stopped. Whoever follows is told of its end.
-/// Refused with the fault of the process, or where memory runs out.
-pub fn work_or_stop<'a, K: Naming, J: Series, R: Wait + Clock, G: Gate, O: Opener<R>>(
-    cluster: &Cluster<'a, K, R, G, O>,
-    image: &'a Image,
-    job: Job<'a, K, J, O::Store>,
-) -> Result<Finished<K, O::Store>, RunFault>
-    requires program { slice_get K.programs job.links.ends.own ≡ Some (program_of image.now) }
-    requires clean { K.OverClean → AreAlwaysClean O.Store.is_clean }
-    ensures end { let l = job.entry.links.ends in
-        IfOk result (λ f. IsEndOf O.Store.is_clean (program_of image.entry.now) l.lines l.own l.n f) }
-    ensures own { IsOwnEnd cluster.now.config.now job.entry.links.ends.own result }
-{
-    let result = work(cluster, image, job);
-    if result.is_err() {
-        stop_all(cluster);
-    }
-    cluster.observers.end();
-    result
 }
 
 // Returns the intervals at which a process is to fail.

@@ -1,3 +1,1 @@
-mod LinkLemmas
-pub mod WireLemmas
 pub mod ActLemmas

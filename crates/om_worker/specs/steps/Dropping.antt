@@ -2,7 +2,7 @@
 use Rattle.std.specs.Prelude.{◌≡◌, ℕ, ◌⊎◌, List, [], ◌∷◌, ◌++◌}
 use Rattle.om_process.specs.Core.{CoreState, with_now}
 use Rattle.om_process.specs.Trims.{trimmed}
-use Rattle.om_worker_parts.specs.Dropping.{AreAllOrNone}
+use Rattle.om_links.specs.Dropping.{AreAllOrNone}
 
 -- all messages to some processes are dropped, or none, and no output; the rest is as it was
 abbrev pub HasDropped : CoreState → CoreState → Type 0

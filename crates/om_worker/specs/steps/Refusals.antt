@@ -4,8 +4,8 @@ use Rattle.om_restart.specs.declared.finding.FindFault.{FindFault}
 use Rattle.om_restart.specs.declared.finding.FindFault.TheVariants as finding
 use Rattle.om_report.specs.declared.fault.RunFault.{RunFault}
 use Rattle.om_report.specs.declared.fault.RunFault.TheVariants as running
-use Rattle.om_worker_parts.specs.declared.opener.OpenFault.{OpenFault}
-use Rattle.om_worker_parts.specs.declared.opener.OpenFault.TheVariants as opening
+use Rattle.om_cluster.specs.declared.opener.OpenFault.{OpenFault}
+use Rattle.om_cluster.specs.declared.opener.OpenFault.TheVariants as opening
 
 -- that of a process was not made
 abbrev pub refusal_of_opening : OpenFault → ℕ → RunFault

@@ -1,5 +1,5 @@
 -- What a turn of a worker does.
-use Rattle.std.specs.Prelude.{◌≡◌, ℕ, Bool, IsTrue, Option, length, ◌≢◌, ◌↔◌, [], true, false, ◌⊎◌, ◌-◌, ◌+◌, ◌%◌, ◌==◌, ◌&&◌, ◌||◌, not}
+use Rattle.std.specs.Prelude.{◌≡◌, ℕ, Bool, IsTrue, Option, length, ◌≢◌, ◌↔◌, [], true, false, ◌⊎◌, ◌-◌, ◌+◌}
 use Rattle.om_process.specs.declared.status.Status.{Status}
 use Rattle.om_node.specs.Ends.{IsWholeRun}
 use Rattle.om_process.specs.Core.{IsEnd, CoreState, settled, RunsTo}
@@ -25,10 +25,9 @@ use Rattle.om_worker_parts.specs.declared.worker_state.WorkerState.TheVariants.{
 use Rattle.om_worker_parts.specs.declared.idle.Pause.{Pause}
 use Rattle.om_worker_parts.specs.declared.idle.Pause.TheVariants.{Woken, Slept}
 use Rattle.om_worker_parts.specs.declared.idle.TheConstants.{IDLE_TURNS}
-use Rattle.om_worker.specs.declared.worker.TheConstants.{ALL_RECEIPTS, ALL_TURNS}
+use Rattle.om_worker.specs.declared.worker.TheConstants.{ALL_TURNS}
 use Rattle.om_worker_parts.specs.Acts.{HasDeclared, HasHeard, HasJoined, HasMet, HasWaited, HasWithdrawn}
 use Rattle.om_report.specs.Locks.{UnderLock}
-use Rattle.om_node.specs.Storing.{HasStored}
 
 -- a turn leaves the process the member that it is, with no flight under way where it does not run on, or it has ended so
 abbrev pub IsTurned : {K J S : Type 0} → (S → Bool) → Member → AfterTurn K J S → Type 0
@@ -109,15 +108,3 @@ abbrev pub HasRun : CoreState → ℕ → Status → Process → Type 0
 HasRun old fuel status new =
     ((old.pending ≢ []) × (status ≡ statuses.Ready) × (new ≡ old.now))
     ⊎ ((count : ℕ) × (core : CoreState) × RunsTo old fuel count status core × (new ≡ core.now))
-
--- whether x receipts are a multiple of k; none are of 0
-abbrev pub is_multiple_of : ℕ → ℕ → Bool
-is_multiple_of x k = not (k == 0) && (x % k == 0)
-
--- what is stored after receipt x: the log with each so many receipts, and a checkpoint with each so many; where a run may take the
--- store up, the log goes with each checkpoint
-pub record HasStoredBy (x flush checkpoint : ℕ) (kept : Bool) (old new : CoreState) : Type 0 where
-  pub log : (is_multiple_of x flush || (kept && is_multiple_of x checkpoint)) ≡ true
-      → HasStored ALL_RECEIPTS (is_multiple_of x checkpoint) old new
-  pub checkpoint_alone : (is_multiple_of x flush || kept) ≡ false → is_multiple_of x checkpoint ≡ true → HasStored 0 true old new
-  pub neither : (is_multiple_of x flush || is_multiple_of x checkpoint) ≡ false → new ≡ old

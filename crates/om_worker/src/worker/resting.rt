@@ -5,7 +5,8 @@ ghost use Rattle.om_worker.specs.steps.Turning.{HasRested, pause_turns};
 
 use super::{ALL_TURNS, Worker};
 use om_board::{Naming, SpinOutcome};
-use om_worker_parts::{Idle, Links, Pause, SpinPolicy};
+use om_links::Links;
+use om_worker_parts::{Idle, Pause, SpinPolicy};
 use std::sync::Wait;
 use std::time::Clock;
 
@@ -41,7 +42,7 @@ impl<'a, K: Naming> Worker<'a, K> {
     pub(super) fn rest<R: Wait + Clock>(&mut self, rt: &R) -> Pause
         ensures same { self.new.links.ends ≡ self.old.links.ends }
     {
-        if self.resent && !self.is_away && self.links.has_put_all() {
+        if self.resent && !self.storing.is_away && self.links.has_put_all() {
             self.wait(rt)
         } else {
             let pause = pause_of(rt, &self.links, &self.idle, &mut self.patience);

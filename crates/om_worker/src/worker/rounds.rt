@@ -90,8 +90,7 @@ impl<'a, K: Naming> Worker<'a, K> {
         ensures joined { OnOk result (UnderLock K.cell.n (λ before after.
             HasJoined before.manager node.old.member.own (flushed node.old.core) after.manager node.new.core)) }
     {
-        node.flush(alloc)?;
-        self.handed.receipts = node.core().interval();
+        self.storing.flush(alloc, node)?;
         let (is_finished, pass) = self
             .manager_link
             .join(rt, alloc, node, &mut self.diary, pass)?;
@@ -193,7 +192,7 @@ impl<'a, K: Naming> Worker<'a, K> {
     {
         self.links.tell_all_received(node.core());
         if is_back {
-            self.handed.cut(verdict.r);
+            self.storing.cut(verdict.r);
         }
         match self.diary.returned(rt, node.core(), verdict, is_back) {
             Ok(()) => {

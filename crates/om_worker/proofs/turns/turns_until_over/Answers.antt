@@ -1,6 +1,6 @@
 use Rattle.std.proofs.Common.{ap, ◌∙◌}
 use Rattle.om_worker_parts.proofs.ActLemmas.{still_process}
-use Rattle.om_worker_parts.specs.Links.{EndsState}
+use Rattle.om_links.specs.Links.{EndsState}
 use Rattle.om_worker_parts.specs.Places.{member_of}
 use Rattle.om_worker.proofs.turns.turns_until_over.Goals as goal
 

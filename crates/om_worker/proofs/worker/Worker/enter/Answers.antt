@@ -9,7 +9,7 @@ use Rattle.om_worker.proofs.worker.Worker.enter.Goals as goal
 pub join-requires : goal.join-requires
 join-requires g c =
     let w = c.args.self.now in
-    still_process _ _ _ _ w.links.ends.own w.manager_link.pid c.args.node.now.member c.flush.new.self.member c.in_ok-flush.ensures.member (sym w.linked) c.requires.process
+    still_process _ _ _ _ w.links.ends.own w.manager_link.pid c.args.node.now.member c.flush.new.node.member c.in_ok-flush.ensures.member (sym w.linked) c.requires.process
 
 pub returns-clause-joined : goal.returns-clause-joined
 returns-clause-joined g c =

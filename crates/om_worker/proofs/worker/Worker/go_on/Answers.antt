@@ -1,6 +1,6 @@
 use Rattle.std.proofs.Common.{ap, refl}
 use Rattle.om_worker_parts.proofs.ActLemmas.{still_process}
-use Rattle.om_worker_parts.specs.Links.{EndsState}
+use Rattle.om_links.specs.Links.{EndsState}
 use Rattle.om_worker.proofs.worker.Worker.go_on.Goals as goal
 
 pub steps-requires : goal.steps-requires

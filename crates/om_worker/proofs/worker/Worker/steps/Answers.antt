@@ -1,6 +1,6 @@
 use Rattle.std.proofs.Common.{ap}
 use Rattle.om_worker_parts.proofs.ActLemmas.{still_process}
-use Rattle.om_worker_parts.specs.Links.{EndsState}
+use Rattle.om_links.specs.Links.{EndsState}
 use Rattle.om_worker.proofs.worker.Worker.steps.Goals as goal
 
 pub step-requires : goal.step-requires

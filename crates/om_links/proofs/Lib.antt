@@ -1,0 +1,2 @@
+mod LinkLemmas
+pub mod WireLemmas

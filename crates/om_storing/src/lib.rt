@@ -1,0 +1,9 @@
+//! What the store of a process is given, and when: its log and its checkpoints by the number of receipts, and what a run that takes
+//! the store up has to find there.
+//!
+//! It goes there at once where the store is quick; else a flight takes it, and one is under way at a time.
+#![tactic(auto)]
+
+mod storing;
+
+pub use storing::Storing;

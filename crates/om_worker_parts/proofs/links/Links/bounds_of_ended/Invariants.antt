@@ -1,6 +1,0 @@
-use Rattle.std.proofs.Common.{◌≡◌, length}
-use Rattle.om_worker_parts.specs.Dropping.{AreAllOrNone}
-use Rattle.om_worker_parts.proofs.links.Links.bounds_of_ended.Given as goal
-
-abbrev pub invariant-loop-to : goal.invariant-loop-to
-invariant-loop-to l = record { places : length l.got ≡ l.self.ends.n; whole : AreAllOrNone l.got }

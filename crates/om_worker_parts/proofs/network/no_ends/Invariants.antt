@@ -1,6 +1,0 @@
-use Rattle.std.proofs.Common.{◌≡◌, [], replicate}
-use Rattle.om_worker_parts.specs.steps.Rows.{all_taken}
-use Rattle.om_worker_parts.proofs.network.no_ends.Given as goal
-
-abbrev pub invariant-loop : goal.invariant-loop
-invariant-loop l = all_taken l.ends.items ≡ replicate l.counter []
