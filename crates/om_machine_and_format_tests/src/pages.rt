@@ -1,7 +1,7 @@
 //! Which pages of a machine's memory hold a byte other than zero, by each way in which a byte comes there.
 
 use crate::same::assert_same_at;
-use om_isa::{Ext, WRITABLE_REGISTERS};
+use om_isa::{Ext, WRITABLE_REGISTERS, is_memory_size};
 use om_machine::{EnvCall, Event, Machine};
 use std::alloc::Global;
 use std::process::Abort;
@@ -23,7 +23,7 @@ fn assert_pages(rt: &impl Abort, alloc: Global, machine: &Machine, row: &[u32], 
     assert_same_at(rt, &row, &kept.as_slice(), &wanted);
 }
 
-type Bytes = (usize, &'static [usize], &'static [u16]);
+type Bytes = (u32, &'static [usize], &'static [u16]);
 
 // The size of a memory, the places of its bytes that are not zero, and the pages: none, the first and the last byte of a page, a
 // page of one word behind a whole one, and the last of 256.
@@ -36,22 +36,21 @@ const MEMORIES: [Bytes; 6] = [
     (65_536, &[65_535], &[255]),
 ];
 
+// A machine that is restored with these bytes.
+fn restored(rt: &impl Abort, alloc: Global, bytes: &[u8]) -> Machine {
+    assert!(rt; is_memory_size(bytes.len()));
+    let regs = [0; WRITABLE_REGISTERS];
+    Machine::restore(alloc, &regs, 0, 0, bytes, Ext::I).expect(rt, "a machine")
+}
+
 #[test]
 fn pages_of_an_image_and_of_a_restored_memory(rt: HostRuntime) {
     let alloc = rt.alloc();
-    let regs = [0; WRITABLE_REGISTERS];
     for (size, set, wanted) in &MEMORIES {
-        let bytes = memory(&rt, alloc, *size, set);
-        let loaded = Machine::load(alloc, &bytes, *size as u32, Ext::I).expect(&rt, "a machine");
-        assert_pages(&rt, alloc, &loaded, &[*size as u32], wanted);
-        let restored = Machine::restore(alloc, &regs, 0, 0, &bytes, Ext::I);
-        assert_pages(
-            &rt,
-            alloc,
-            &restored.expect(&rt, "a machine"),
-            &[*size as u32],
-            wanted,
-        );
+        let bytes = memory(&rt, alloc, *size as usize, set);
+        let loaded = Machine::load(alloc, &bytes, *size, Ext::I).expect(&rt, "a machine");
+        assert_pages(&rt, alloc, &loaded, &[*size], wanted);
+        assert_pages(&rt, alloc, &restored(&rt, alloc, &bytes), &[*size], wanted);
     }
 }
 
