@@ -1,7 +1,8 @@
 -- Machines that are kept, as the process moves and the tape grows.
-use Rattle.std.proofs.Common.{◌≡◌, ℕ, ◌<◌, ◌++◌, ◌∷◌, [], List, length, get_or, Result, Ok, Err, IfOk, OnErr, refl, sym, subst}
+use Rattle.std.proofs.Common.{◌≡◌, ℕ, ◌<◌, ◌++◌, ◌∷◌, [], List, length, get_or, take, drop, Result, Ok, Err, IfOk, OnErr, is_ok, if◌then◌else◌, refl, sym, subst}
 use Rattle.std.specs.Prelude.{All, Contains}
-use Rattle.std.proofs.lemmas.List.Elements.{All-contains, All-get_or, All-weaker}
+use Rattle.std.specs.List.{insert}
+use Rattle.std.proofs.lemmas.List.Elements.{All-append, All-cons, All-contains, All-drop, All-get_or, All-take, All-weaker}
 use Rattle.om_machine.specs.State.{State}
 use Rattle.om_timeline.specs.declared.deed.Deed.{Deed}
 use Rattle.om_timeline.specs.declared.fault.PlayFault.{PlayFault}
@@ -54,3 +55,26 @@ kept_there t m next own n event turns place stages stage kept within read same =
           (record { is_own = kept.placed.is_own; is_n = kept.placed.is_n; within = there.within; few = there.few; here = there.here });
       stages = kept.stages;
     }
+
+-- one more, of the position itself
+kept_more : (t : ReelState) (m : State) (own n event turns place : ℕ) (stages : List Stage) (stage : Stage) → IsKept t m own n event turns stages → stage.machine ≡ m → stage.at.event ≡ event → stage.at.turns ≡ turns
+    → IsKept t m own n event turns (insert stages place stage)
+kept_more t m own n event turns place stages stage kept same at_event at_turns =
+    let it = kept.placed in
+    let here : IsPlaced t m t.own t.n event turns = record { is_own = refl; is_n = refl; within = it.within; few = it.few; here = it.here } in
+    let moved : IsPlaced t stage.machine t.own t.n event turns = subst (λ x. IsPlaced t x t.own t.n event turns) (sym same) here in
+    let before : IsPlaced t stage.machine t.own t.n stage.at.event turns = subst (λ x. IsPlaced t stage.machine t.own t.n x turns) (sym at_event) moved in
+    let placed : IsStage t stage = subst (λ x. IsPlaced t stage.machine t.own t.n stage.at.event x) (sym at_turns) before in
+    record {
+      placed = it;
+      stages = All-append (IsStage t) (take place stages) (stage ∷ drop place stages) (All-take (IsStage t) place stages kept.stages)
+          (All-cons (IsStage t) stage (drop place stages) placed (All-drop (IsStage t) place stages kept.stages));
+    }
+
+-- the same, where there was room for one
+pub kept_tried : {A E : Type 0} (result : Result A E) (t : ReelState) (m : State) (own n event turns place : ℕ) (stages after : List Stage) (stage : Stage)
+    → after ≡ (if is_ok result then insert stages place stage else stages) → IsKept t m own n event turns stages → stage.machine ≡ m → stage.at.event ≡ event → stage.at.turns ≡ turns
+    → IsKept t m own n event turns after
+kept_tried (Ok _) t m own n event turns place stages after stage items kept same at_event at_turns =
+    subst (IsKept t m own n event turns) (sym items) (kept_more t m own n event turns place stages stage kept same at_event at_turns)
+kept_tried (Err _) t m own n event turns place stages after stage items kept same at_event at_turns = subst (IsKept t m own n event turns) (sym items) kept
