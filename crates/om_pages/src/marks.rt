@@ -72,8 +72,18 @@ fn is_kept_at(memory: &[u8], marks: &[bool], index: usize) -> bool
     ensures { result ≡ is_kept (page_at memory.now index).bytes }
 {
     if marks[index] {
-        is_kept(page_of(memory, index))
+        is_page_kept(memory, index)
     } else {
         false
     }
+}
+
+// Returns whether a page is kept. It stands apart, so that nothing is done for a page that has no mark.
+#[inline(never)]
+fn is_page_kept(memory: &[u8], index: usize) -> bool
+    requires most { length memory.now ≤ MAX_MEMORY }
+    requires within { index < page_count (length memory.now) }
+    ensures { result ≡ is_kept (page_at memory.now index).bytes }
+{
+    is_kept(page_of(memory, index))
 }

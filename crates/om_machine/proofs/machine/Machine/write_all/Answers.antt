@@ -21,7 +21,7 @@ invariant_of-self c =
       registers = c.self.invariant.registers;
       table = table_written c.self.inside.memory.items address bytes _ (c.forget.ensures.table (length c.self.inside.memory.items) c.self.invariant.table) inside;
       knows = knows_written _ _ address bytes c.self.inside.table.items _ (address / 4) ((address + length bytes + 3) / 4) c.self.invariant.knows c.forget.ensures.forgets inside (omega arith) (omega arith);
-      touches = touches_written c.self.inside.memory.items address bytes c.self.inside.table.items _ c.self.inside.touched.items _ (address / 4) ((address + length bytes + 3) / 4) (address / 256) c.page_count.result c.self.invariant.touches c.forget.ensures.forgets c.mark.ensures inside
+      touches = touches_written c.self.inside.memory.items address bytes c.self.inside.table.items _ c.self.inside.touched.items _ (address / 4) ((address + length bytes + 3) / 4) _ _ c.self.invariant.touches c.forget.ensures.forgets c.mark.ensures inside
           (λ k from below. (omega arith, omega (arith, c.page_count.ensures)))
           (λ k from below. (omega arith, omega (arith, c.page_count.ensures)));
     })
