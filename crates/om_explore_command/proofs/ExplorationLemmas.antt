@@ -15,7 +15,8 @@ use Rattle.om_check.specs.Orders.{HasAll, IsSameRun}
 use Rattle.om_check.proofs.AtRest.{stuck_over}
 use Rattle.om_check.proofs.Ending.{below}
 use Rattle.om_check.proofs.OneRun.{one_rest_of, stuck_rests, there}
-use Rattle.om_run_commands.specs.Check.{IsTextBy}
+use Rattle.om_commands.specs.declared.bytes_text.BytesForm.TheVariants.{Hex}
+use Rattle.om_run_commands.specs.Check.{IsTextIn}
 use Rattle.om_run_commands.specs.RunText.{run_text}
 use Rattle.om_explore_command.specs.Explorations.{HasAllTexts, IsExploration}
 use Rattle.om_explore_command.specs.Outcomes.{IsTextOf}
@@ -71,7 +72,7 @@ stuck_of programs live outputs statuses run = record {
 }
 
 -- its text as it is written of a run is the text of the exploration
-pub text_of_run : (cluster : Cluster) (live : List Entry) (text : List ℕ) → IsTextBy cluster live text → IsTextOf cluster live text
+pub text_of_run : (cluster : Cluster) (live : List Entry) (text : List ℕ) → IsTextIn Hex cluster live text → IsTextOf cluster live text
 text_of_run cluster live text by = record {
   outputs = by.outputs;
   statuses = by.statuses;

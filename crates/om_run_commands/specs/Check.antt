@@ -21,10 +21,6 @@ pub record IsTextIn (form : BytesForm) (cluster : Cluster) (live : List Entry) (
   pub run : IsRunBy (programs_of cluster) live outputs statuses
   pub written : text ≡ run_text_in form cluster outputs statuses
 
--- the text of such a run, with the bytes of outputs in hexadecimal
-abbrev pub IsTextBy : Cluster → List Entry → List ℕ → Type 0
-IsTextBy = IsTextIn Hex
-
 -- the text of some run without failures of these programs
 abbrev pub IsFailureFreeIn : BytesForm → Cluster → List ℕ → Type 0
 IsFailureFreeIn form cluster text = (live : List Entry) × IsTextIn form cluster live text
@@ -35,9 +31,6 @@ IsFailureFreeText = IsFailureFreeIn Hex
 -- the answer to the cluster file that these bytes are
 abbrev pub IsCheckedRunIn : BytesForm → List ℕ → List ℕ → Type 0
 IsCheckedRunIn form bytes text = AnswersScript cluster_file_line no_settings (λ script. IsFailureFreeIn form script.cluster) bytes text
-
-abbrev pub IsCheckedRun : List ℕ → List ℕ → Type 0
-IsCheckedRun = IsCheckedRunIn Hex
 
 -- the errors are those of a run, and that it is unlike its check
 abbrev pub IsErrorOfCheckedRun : List ℕ → CommandError → Type 0
