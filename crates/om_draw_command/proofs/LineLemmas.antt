@@ -2,10 +2,10 @@
 use Rattle.std.proofs.Common.{◌≡◌, ◌+◌, ◌-◌, ◌<◌, ◌≤◌, ◌==◌, ℕ, zero, suc, Bool, true, false, if◌then◌else◌, List, [], ◌∷◌, length, map, drop, get_or, arith}
 use Rattle.std.specs.Prelude.{slice_index}
 use Rattle.std.specs.List.{slice_split}
+use Rattle.std.specs.Str.Lines.{lines as lines_in, lines_of_parts}
 use Rattle.std.proofs.lemmas.List.{get_or-drop, length-drop, length-map}
 use Rattle.std.proofs.lemmas.List.Splits.{length-slice_split}
 use Rattle.std.proofs.lemmas.List.Sums.{count_by-le-length}
-use Rattle.om_text.specs.Lines.{lines_of, lines_of_parts}
 use Rattle.om_text.specs.Numbered.{numbered}
 use Rattle.om_text.specs.Words.{is_passed_over, words_of}
 use Rattle.om_draw_command.specs.Draw.{event_lines}
@@ -51,8 +51,8 @@ dropped_rise xs n rise i j less below =
 pub lines_rise : (bytes : List ℕ) (events i j : ℕ) → i < j → j < length (event_lines bytes events)
     → slice_index (event_lines bytes events) i < slice_index (event_lines bytes events) j
 lines_rise bytes events i j less below =
-    let lines : List ℕ = numbered 1 (map words_of (lines_of bytes)) in
-    dropped_rise lines (length lines - events) (numbers_rise 1 (map words_of (lines_of bytes))) i j less below
+    let lines : List ℕ = numbered 1 (map words_of (lines_in bytes)) in
+    dropped_rise lines (length lines - events) (numbers_rise 1 (map words_of (lines_in bytes))) i j less below
 
 -- ---- how many they are
 one_few : (b : Bool) (number n : ℕ) (rest : List ℕ) → length rest ≤ n → length (if b then rest else number ∷ rest) ≤ suc n
@@ -64,17 +64,20 @@ numbers_few number [] = omega arith
 numbers_few number (words ∷ lines) =
     one_few (is_passed_over words) number (length lines) (numbered (number + 1) lines) (numbers_few (number + 1) lines)
 
+last_few : (b : Bool) (line : List ℕ) → length (if b then [] else line ∷ []) ≤ 1
+last_few true line = omega arith
+last_few false line = omega arith
+
 parts_few : (parts : List (List ℕ)) → length (lines_of_parts parts) ≤ length parts
 parts_few [] = omega arith
-parts_few ([] ∷ []) = omega arith
-parts_few ((byte ∷ bytes) ∷ []) = omega arith
+parts_few (line ∷ []) = last_few (length line == 0) line
 parts_few (line ∷ next ∷ more) = let h = parts_few (next ∷ more) in omega arith
 
 -- no more than bytes, and one
 pub lines_few : (bytes : List ℕ) (events : ℕ) → length (event_lines bytes events) ≤ length bytes + 1
 lines_few bytes events =
-    let lines : List ℕ = numbered 1 (map words_of (lines_of bytes)) in
-    let all : length lines ≤ length (lines_of bytes) = simp length-map at (numbers_few 1 (map words_of (lines_of bytes))) in
+    let lines : List ℕ = numbered 1 (map words_of (lines_in bytes)) in
+    let all : length lines ≤ length (lines_in bytes) = simp length-map at (numbers_few 1 (map words_of (lines_in bytes))) in
     let some = length-drop (length lines - events) lines in
     let parts = parts_few (slice_split (λ b. b == 10) bytes) in
     let cuts = length-slice_split (λ (b : ℕ). b == 10) bytes in

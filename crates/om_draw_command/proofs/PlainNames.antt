@@ -6,7 +6,7 @@ use Rattle.om_interval.specs.declared.pid.TheConstants.{MAX_PROCESSES}
 use Rattle.om_isa.specs.declared.ext.Ext.{Ext}
 use Rattle.om_isa.specs.declared.ext.Ext.TheVariants.{I, Im}
 use Rattle.om_isa.specs.Memory.{is_memory_size}
-use Rattle.om_text.specs.Lines.{lines_of}
+use Rattle.std.specs.Str.Lines.{lines as lines_in}
 use Rattle.om_text.specs.Numbers.{number_of, hex_word}
 use Rattle.om_text.specs.Reading.{◌>>=◌, or_error, refused, all_read}
 use Rattle.om_text.specs.Script.{at_line, script_from}
@@ -163,4 +163,4 @@ no_names = record { processes = refl; programs = refl }
 
 -- the names of a script
 pub names_are_plain : (bytes : List ℕ) (script : EventScript) → IsScript event_script_line no_events bytes script → HasPlainNames script.cluster
-names_are_plain bytes script is = lines_kept 1 no_events script (map words_of (lines_of bytes)) no_names is.read
+names_are_plain bytes script is = lines_kept 1 no_events script (map words_of (lines_in bytes)) no_names is.read

@@ -3,7 +3,7 @@ use Rattle.std.specs.Prelude.{◌≡◌, ◌≤◌, ℕ, ◌-◌, List, [], ◌�
 use Rattle.std.specs.List.{count_by}
 use Rattle.om_manager.specs.State.{process_count}
 use Rattle.om_scripts.specs.Programs.{programs_of}
-use Rattle.om_text.specs.Lines.{lines_of}
+use Rattle.std.specs.Str.Lines.{lines}
 use Rattle.om_text.specs.Numbered.{numbered}
 use Rattle.om_text.specs.Words.{words_of}
 use Rattle.om_world.specs.Played.{Played}
@@ -24,8 +24,8 @@ use Rattle.om_commands.specs.SimScript.{EventScript, event_script_line, no_event
 -- the numbers of the lines of the events, which stand behind all others
 abbrev pub event_lines : List ℕ → ℕ → List ℕ
 event_lines bytes events =
-    let lines = numbered 1 (map words_of (lines_of bytes)) in
-    drop (length lines - events) lines
+    let numbers = numbered 1 (map words_of (lines bytes)) in
+    drop (length numbers - events) numbers
 
 -- an event of a line is played, and this is its row: its answer, the new outputs that it handed in, and the recovery state behind it
 pub record IsPlayedRow (number : ℕ) (happens : Event) (old : WorldState) (row : EventRow) (new : WorldState) : Type 0 where

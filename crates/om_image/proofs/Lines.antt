@@ -2,10 +2,10 @@
 use Rattle.std.proofs.Common.{◌≡◌, ℕ, suc, ◌<◌, Bool, false, cond, not, List, [], ◌∷◌, ◌++◌, length, All, refl, ap, ◌∙◌, arith, slice_index, slice_index_or}
 use Rattle.std.specs.Prelude.{filter, ◌==◌}
 use Rattle.std.specs.List.{slice_split}
+use Rattle.std.specs.Str.Lines.{lines, lines_of_parts, strip_carriage_return}
 use Rattle.std.proofs.lemmas.Bool.Decides.{nat_tests}
 use Rattle.std.proofs.lemmas.List.Elements.{All-append, All-cons, All-nil}
 use Rattle.std.proofs.lemmas.List.Splits.{slice_split_at, slice_split_none}
-use Rattle.om_text.specs.Lines.{lines_of, lines_of_parts, without_return}
 use Rattle.om_text.specs.Words.{is_blank, words_of}
 use Rattle.om_image.specs.steps.Lines.{spaced}
 
@@ -62,15 +62,15 @@ no_feed line above k d within = apart (slice_index_or line k d) (above k d withi
     apart : (c : ℕ) → 31 < c → (c == 10) ≡ false
     apart c more = grind (arith, nat_tests)
 
-no_return : (line : List ℕ) → All (λ c. 31 < c) line → without_return line ≡ line
+no_return : (line : List ℕ) → All (λ c. 31 < c) line → strip_carriage_return line ≡ line
 no_return [] above = refl
 no_return (c ∷ line) above = go (slice_index (c ∷ line) (length line)) (above (length line) 0 (omega arith))
   where
-    go : (last : ℕ) → 31 < last → without_return (c ∷ line) ≡ c ∷ line
+    go : (last : ℕ) → 31 < last → strip_carriage_return (c ∷ line) ≡ c ∷ line
     go last more = grind (arith, nat_tests)
 
 -- a line with its end is one line
-pub one_line : (line : List ℕ) → All (λ c. 31 < c) line → lines_of (line ++ 10 ∷ []) ≡ line ∷ []
+pub one_line : (line : List ℕ) → All (λ c. 31 < c) line → lines (line ++ 10 ∷ []) ≡ line ∷ []
 one_line line above =
     ap lines_of_parts (slice_split_at (λ b. b == 10) line 10 [] (no_feed line above) refl)
     ∙ ap (λ l. l ∷ []) (no_return line above)

@@ -5,6 +5,7 @@ use Rattle.std.specs.Io.KnownBytes.{Appends}
 use Rattle.std.specs.Option.{option_map}
 use Rattle.std.specs.Int.{to_le_bytes, w32}
 use Rattle.std.specs.List.{list_all}
+use Rattle.std.specs.Str.Lines.{lines}
 use Rattle.std.proofs.lemmas.Bool.Decides.{nat_tests}
 use Rattle.std.proofs.lemmas.Grind.{flat_map-append}
 use Rattle.std.proofs.lemmas.List.{take_all, length-replicate, length-take}
@@ -13,7 +14,6 @@ use Rattle.om_isa.specs.declared.ext.Ext.{Ext}
 use Rattle.om_isa.specs.declared.ext.Ext.TheVariants.{I, Im}
 use Rattle.om_isa.specs.Memory.{is_memory_size}
 use Rattle.om_isa.specs.declared.memory.TheConstants.{MAX_MEMORY}
-use Rattle.om_text.specs.Lines.{lines_of}
 use Rattle.om_text.specs.Reading.{Gives, all_read}
 use Rattle.om_text.specs.declared.error.BuildError.{BuildError}
 use Rattle.om_text.specs.declared.error.BuildError.TheVariants as building
@@ -78,7 +78,7 @@ image_line ext name size bytes words texts text are small same read is =
     let rest : All IsPlain (name ∷ size ∷ texts) = All-cons IsPlain name (size ∷ texts) (plain_name name says.named) (All-cons IsPlain size texts (plain_number size says.number says.is_number) (subst (All IsPlain) (sym same) (plain_texts words))) in
     record {
       line = keyword ext ++ spaced (name ∷ size ∷ texts);
-      one_line = ap lines_of is ∙ one_line (keyword ext ++ spaced (name ∷ size ∷ texts)) (all_above (keyword ext) (name ∷ size ∷ texts) first rest);
+      one_line = ap lines is ∙ one_line (keyword ext ++ spaced (name ∷ size ∷ texts)) (all_above (keyword ext) (name ∷ size ∷ texts) first rest);
       words = texts;
       is_line = words_of_line (keyword ext) (name ∷ size ∷ texts) first rest;
       program = program_in ext says.number words;

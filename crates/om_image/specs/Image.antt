@@ -1,12 +1,12 @@
 -- The `program` line of a raw image.
 use Rattle.std.specs.Prelude.{◌≡◌, ℕ, ◌+◌, ◌<◌, ◌≤◌, List, [], ◌∷◌, ◌++◌, codes, flat_map, length, map, replicate, slice_index, take, Some, Ok, Err}
 use Rattle.std.specs.Int.{to_be_bytes, to_le_bytes, w32}
+use Rattle.std.specs.Str.Lines.{lines}
 use Rattle.hex.specs.Hex.{encode_lower}
 use Rattle.om_isa.specs.declared.memory.TheConstants.{MAX_MEMORY}
 use Rattle.om_isa.specs.declared.ext.Ext.{Ext}
 use Rattle.om_isa.specs.declared.ext.Ext.TheVariants.{I, Im}
 use Rattle.om_process.specs.Process.{Program}
-use Rattle.om_text.specs.Lines.{lines_of}
 use Rattle.om_text.specs.Numbers.{number_of}
 use Rattle.om_text.specs.Words.{words_of}
 use Rattle.om_text.specs.declared.error.LineError.{LineError}
@@ -39,7 +39,7 @@ pub record IsProgramOf (ext : Ext) (size bytes : List ℕ) (program : Program) :
 -- of a program, behind nothing else, it gives this one program
 pub record IsImageLine (ext : Ext) (name size bytes text : List ℕ) : Type 0 where
   pub line : List ℕ
-  pub one_line : lines_of text ≡ line ∷ []
+  pub one_line : lines text ≡ line ∷ []
   pub words : List (List ℕ)
   pub is_line : words_of line ≡ keyword ext ∷ name ∷ size ∷ words
   pub program : Program

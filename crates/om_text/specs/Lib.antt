@@ -1,6 +1,5 @@
 pub mod Errors
 pub mod FirstFaulty
-pub mod Lines
 pub mod Numbered
 pub mod Numbers
 pub mod Reading

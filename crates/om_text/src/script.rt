@@ -1,8 +1,8 @@
 //! Scripts, over any meaning of a line.
 
 ghost use Rattle.std.specs.Prelude.{ℕ, List, map, Result};
+ghost use Rattle.std.specs.Str.Lines.{lines};
 ghost use Rattle.om_text.specs.declared.error.LineError.{LineError};
-ghost use Rattle.om_text.specs.Lines.{lines_of};
 ghost use Rattle.om_text.specs.Reading.{Gives};
 ghost use Rattle.om_text.specs.Script.{after_line, script_from};
 ghost use Rattle.om_text.specs.Words.{words_of};
@@ -39,7 +39,7 @@ pub fn read_script<B: Builder + Drop>(
     builder: B,
 ) -> Result<B, BuildError<ScriptError>>
     ensures { Gives B.state result
-        (script_from B.meaning 1 (B.state builder) (map words_of (lines_of text.now))) }
+        (script_from B.meaning 1 (B.state builder) (map words_of (lines text.now))) }
 {
     let mut builder = builder;
     let mut words = Vec::new(alloc);

@@ -1,5 +1,5 @@
 use Rattle.std.proofs.Common.{◌≡◌, ◌+◌, ◌≤◌, ◌++◌, length, map}
-use Rattle.om_text.specs.Lines.{lines_of}
+use Rattle.std.specs.Str.Lines.{lines}
 use Rattle.om_text.specs.Numbered.{numbered}
 use Rattle.om_text.specs.Words.{words_of}
 use Rattle.om_text.proofs.numbered.numbered_lines.Given as goal
@@ -10,5 +10,5 @@ decreases-loop-line l = length l.rest
 abbrev pub invariant-loop-line : goal.invariant-loop-line
 invariant-loop-line l = record {
   counted : l.number + length l.rest ≤ length l.text;
-  so_far : l.numbers.items ++ numbered (l.number + 1) (map words_of (lines_of l.rest)) ≡ numbered 1 (map words_of (lines_of l.text));
+  so_far : l.numbers.items ++ numbered (l.number + 1) (map words_of (lines l.rest)) ≡ numbered 1 (map words_of (lines l.text));
 }
