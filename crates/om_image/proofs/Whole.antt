@@ -15,16 +15,17 @@ use Rattle.om_isa.specs.declared.ext.Ext.TheVariants.{I, Im}
 use Rattle.om_isa.specs.Memory.{is_memory_size}
 use Rattle.om_isa.specs.declared.memory.TheConstants.{MAX_MEMORY}
 use Rattle.om_text.specs.Reading.{Gives, all_read}
+use Rattle.om_text.specs.Words.{words_of}
 use Rattle.om_text.specs.declared.error.BuildError.{BuildError}
 use Rattle.om_text.specs.declared.error.BuildError.TheVariants as building
 use Rattle.om_text.specs.declared.error.LineError.{LineError}
 use Rattle.om_scripts.specs.Programs.{Cluster, no_programs, program_in, program_line}
 use Rattle.om_scripts.proofs.ImageLemmas.{length-words}
-use Rattle.om_image.specs.Image.{AreWordsOf, IsElf, IsErrorOf, IsImageLine, IsRefused, keyword, most_read, word_text}
+use Rattle.om_image.specs.Image.{IsElf, IsErrorOf, IsImageLine, IsRefused, keyword, most_read, word_text}
 use Rattle.om_image.specs.declared.error.ImageError.{ImageError}
 use Rattle.om_image.specs.declared.error.ImageError.TheVariants as errors
 use Rattle.om_image.specs.steps.Lines.{IsErrorOfLine, IsTaken, spaced}
-use Rattle.om_image.specs.steps.Padded.{AreWholeWordsOf, IsPadded}
+use Rattle.om_image.specs.steps.Padded.{AreWholeWordsOf, AreWordsOf, IsWholePadded}
 use Rattle.om_image.proofs.Digits.{above_of_bytes, bytes_are_small, text_some, words_read_back}
 use Rattle.om_image.proofs.Lines.{IsPlain, all_above, one_line, words_of_line}
 use Rattle.om_image.proofs.Programs.{IsRead, plain_name, plain_number, read_says}
@@ -32,7 +33,7 @@ use Rattle.om_text.specs.Numbers.{hex_word}
 use Rattle.om_text.specs.declared.error.LineError.TheVariants.{BadWord}
 
 -- ---- bytes
-pub words_of_padded : (bytes padded words : List ℕ) → IsPadded bytes padded → AreWholeWordsOf padded words → AreWordsOf bytes words
+pub words_of_padded : (bytes padded words : List ℕ) → IsWholePadded bytes padded → AreWholeWordsOf padded words → AreWordsOf bytes words
 words_of_padded bytes padded words pad whole = (
   pad.zeros,
   pad.few,
@@ -74,16 +75,18 @@ pub image_line : (ext : Ext) (name size bytes words : List ℕ) (texts : List (L
 image_line ext name size bytes words texts text are small same read is =
     let back : all_read hex_word BadWord texts ≡ Ok words = ap (all_read hex_word BadWord) same ∙ words_read_back words small in
     let says : IsRead ext name size words read.0 = read_says ext name size texts words read.0 back read.1 in
+    let line : List ℕ = keyword ext ++ spaced (name ∷ size ∷ texts) in
     let first : IsPlain (keyword ext) = plain_keyword ext in
     let rest : All IsPlain (name ∷ size ∷ texts) = All-cons IsPlain name (size ∷ texts) (plain_name name says.named) (All-cons IsPlain size texts (plain_number size says.number says.is_number) (subst (All IsPlain) (sym same) (plain_texts words))) in
     record {
-      line = keyword ext ++ spaced (name ∷ size ∷ texts);
-      one_line = ap lines is ∙ one_line (keyword ext ++ spaced (name ∷ size ∷ texts)) (all_above (keyword ext) (name ∷ size ∷ texts) first rest);
       words = texts;
-      is_line = words_of_line (keyword ext) (name ∷ size ∷ texts) first rest;
+      is_line = ap (map words_of) (ap lines is ∙ one_line line (all_above (keyword ext) (name ∷ size ∷ texts) first rest))
+          ∙ ap (λ words. words ∷ []) (words_of_line (keyword ext) (name ∷ size ∷ texts) first rest);
       program = program_in ext says.number words;
       read = read.1 ∙ ap Ok says.cluster_is;
-      is_program = record { is_size = says.is_number; is_ext = refl; zeros = are.0; few = are.1; is_image = are.2 };
+      is_size = says.is_number;
+      is_ext = refl;
+      is_image = are;
     }
 
 -- the bytes are no more than a memory may have

@@ -18,39 +18,31 @@ use Rattle.om_image.specs.declared.error.ImageError.TheVariants as errors
 abbrev pub word_text : ℕ → List ℕ
 word_text word = encode_lower (to_be_bytes w32 word)
 
--- the words have these bytes, the lowest of each first; behind them the last word is padded with zeros
-abbrev pub AreWordsOf : List ℕ → List ℕ → Type 0
-AreWordsOf bytes words = (zeros : ℕ) × (zeros < 4) × (flat_map (to_le_bytes w32) words ≡ bytes ++ replicate zeros 0)
+-- the bytes, and fewer than four zeros behind them
+abbrev pub IsPadded : List ℕ → List ℕ → Type 0
+IsPadded bytes padded = (zeros : ℕ) × (zeros < 4) × (padded ≡ bytes ++ replicate zeros 0)
 
 -- the first word of the line of a program that may use these instructions
 abbrev pub keyword : Ext → List ℕ
 keyword I = codes "program"
 keyword Im = codes "program-m"
 
--- the program that these words write, whose memory begins with these bytes, padded with zeros to a whole number of words
-pub record IsProgramOf (ext : Ext) (size bytes : List ℕ) (program : Program) : Type 0 where
-  pub is_size : number_of size ≡ Some program.size
-  pub is_ext : program.ext ≡ ext
-  pub zeros : ℕ
-  pub few : zeros < 4
-  pub is_image : program.image ≡ bytes ++ replicate zeros 0
-
 -- the text is one line, whose words are those of the keyword, the name and the size, and words of the machine; read as the line
--- of a program, behind nothing else, it gives this one program
+-- of a program, behind nothing else, it gives this one program, of this size, whose memory begins with the bytes, padded with
+-- zeros to a whole number of words
 pub record IsImageLine (ext : Ext) (name size bytes text : List ℕ) : Type 0 where
-  pub line : List ℕ
-  pub one_line : lines text ≡ line ∷ []
   pub words : List (List ℕ)
-  pub is_line : words_of line ≡ keyword ext ∷ name ∷ size ∷ words
+  pub is_line : map words_of (lines text) ≡ (keyword ext ∷ name ∷ size ∷ words) ∷ []
   pub program : Program
   pub read : program_line ext no_programs (name ∷ size ∷ words) ≡ Ok (record no_programs { programs = (name, program) ∷ [] })
-  pub is_program : IsProgramOf ext size bytes program
+  pub is_size : number_of size ≡ Some program.size
+  pub is_ext : program.ext ≡ ext
+  pub is_image : IsPadded bytes program.image
 
--- the line of the words that have these bytes is refused for this
-pub record IsRefused (ext : Ext) (name size bytes : List ℕ) (error : LineError) : Type 0 where
-  pub words : List ℕ
-  pub are_words : AreWordsOf bytes words
-  pub read : program_line ext no_programs (name ∷ size ∷ map word_text words) ≡ Err error
+-- the line of the words that have these bytes, the lowest of each first and the last word padded, is refused for this
+abbrev pub IsRefused : Ext → List ℕ → List ℕ → List ℕ → LineError → Type 0
+IsRefused ext name size bytes error = (words : List ℕ) × IsPadded bytes (flat_map (to_le_bytes w32) words)
+    × (program_line ext no_programs (name ∷ size ∷ map word_text words) ≡ Err error)
 
 -- the bytes begin as a linked program does, an ELF file
 pub record IsElf (bytes : List ℕ) : Type 0 where

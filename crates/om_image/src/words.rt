@@ -2,8 +2,8 @@
 
 ghost use Rattle.std.specs.Prelude.{◌≡◌, ◌+◌, ◌≤◌, ◌<◌, ◌^◌, All, IfOk, length, map, slice_range, string_bytes};
 ghost use Rattle.std.specs.Int.{to_le_bytes, w32};
-ghost use Rattle.om_image.specs.Image.{AreWordsOf, word_text};
-ghost use Rattle.om_image.specs.steps.Padded.{AreWholeWordsOf, IsPadded};
+ghost use Rattle.om_image.specs.Image.{word_text};
+ghost use Rattle.om_image.specs.steps.Padded.{AreWholeWordsOf, AreWordsOf, IsWholePadded};
 
 use std::alloc::{AllocError, Global};
 
@@ -22,7 +22,7 @@ pub(crate) fn words_of(alloc: Global, bytes: &[u8]) -> Result<Vec<u32>, AllocErr
 
 // Returns the bytes, and zeros up to a whole number of words.
 fn padded(alloc: Global, bytes: &[u8]) -> Result<Vec<u8>, AllocError>
-    ensures { IfOk result (λ padded. IsPadded bytes.now padded.items) }
+    ensures { IfOk result (λ padded. IsWholePadded bytes.now padded.items) }
 {
     let zeros = (WORD_BYTES - bytes.len() % WORD_BYTES) % WORD_BYTES;
     let mut padded = Vec::from_slice(alloc, bytes)?;
