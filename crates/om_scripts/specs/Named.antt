@@ -1,13 +1,13 @@
 -- Names, and values by name.
 use Rattle.std.specs.Prelude.{ℕ, Bool, ◌&&◌, ◌||◌, List, map, length, Option, position, nat_lt, nat_le, ◌==◌}
+use Rattle.std.specs.Char.{is_ascii_alphanumeric}
 use Rattle.std.specs.List.{list_all}
 use Rattle.std.specs.Str.{bytes_eq}
 use Rattle.om_scripts.specs.declared.names.TheConstants.{MAX_NAME}
 
 -- a letter, a digit or `_`
 abbrev pub is_name_byte : ℕ → Bool
-is_name_byte b =
-    (nat_le 97 b && nat_le b 122) || (nat_le 65 b && nat_le b 90) || (nat_le 48 b && nat_le b 57) || (b == 95)
+is_name_byte b = is_ascii_alphanumeric b || (b == 95)
 
 -- one such byte or more, and not too many
 abbrev pub is_name : List ℕ → Bool
