@@ -1,5 +1,5 @@
 -- What a word stands for as a number.
-use Rattle.std.specs.Prelude.{ℕ, Bool, ◌&&◌, ◌^◌, List, length, Option, Some, None, nat_lt, if◌then◌else◌, ◌==◌}
+use Rattle.std.specs.Prelude.{ℕ, Bool, ◌&&◌, ◌^◌, List, length, Option, option_and_then, Some, None, nat_lt, if◌then◌else◌, ◌==◌}
 use Rattle.std.specs.Char.{is_digit}
 use Rattle.std.specs.List.{list_all}
 use Rattle.std.specs.Str.Parse.{digits_value}
@@ -14,8 +14,7 @@ decimal_number word = if nat_lt 0 (length word) && are_digits 10 word then Some 
 
 -- the number, where it is below the limit
 abbrev pub below : ℕ → Option ℕ → Option ℕ
-below limit None = None
-below limit (Some number) = if nat_lt number limit then Some number else None
+below limit = option_and_then (λ number. if nat_lt number limit then Some number else None)
 
 -- a number of 64 bits
 abbrev pub long_number_of : List ℕ → Option ℕ
