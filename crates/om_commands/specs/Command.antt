@@ -1,7 +1,7 @@
 -- What every command over a script answers to the bytes of its input.
 use Rattle.std.specs.Prelude.{◌≡◌, ℕ, ◌<◌, ◌≤◌, List, length, map, Result, Ok, Err}
 use Rattle.std.specs.Str.Lines.{lines}
-use Rattle.om_text.specs.Script.{Meaning, script_from}
+use Rattle.om_text.specs.Script.{Meaning, numbered, script_from}
 use Rattle.om_text.specs.Words.{words_of}
 use Rattle.om_text.specs.declared.error.ScriptError.{ScriptError}
 use Rattle.om_text.specs.declared.text.TheConstants.{MAX_BYTES}
@@ -10,7 +10,7 @@ use Rattle.om_commands.specs.declared.error.CommandError.TheVariants as errors
 
 -- what the lines of a text give from this start on
 abbrev pub script_of : {State : Type 0} → Meaning State → State → List ℕ → Result State ScriptError
-script_of meaning start bytes = script_from meaning 1 start (map words_of (lines bytes))
+script_of meaning start bytes = script_from meaning start (numbered 1 (map words_of (lines bytes)))
 
 -- the bytes are not too many, and their lines give this script
 pub record IsScript {State : Type 0} (meaning : Meaning State) (start : State) (bytes : List ℕ) (script : State) : Type 0 where

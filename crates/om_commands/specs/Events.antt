@@ -2,7 +2,8 @@
 use Rattle.std.specs.Prelude.{ℕ, List, [], ◌∷◌, Option, Result, Ok, Err, if◌then◌else◌, codes}
 use Rattle.std.specs.Str.{bytes_eq}
 use Rattle.om_text.specs.Numbers.{number_of, long_number_of}
-use Rattle.om_text.specs.Reading.{◌>>=◌, or_error}
+use Rattle.std.specs.Option.{ok_or}
+use Rattle.om_text.specs.Reading.{◌>>=◌}
 use Rattle.om_text.specs.declared.error.LineError.{LineError}
 use Rattle.om_text.specs.declared.error.LineError.TheVariants.{UnknownLine, WrongCount, BadNumber}
 use Rattle.om_world.specs.declared.event.Event.{Event}
@@ -10,14 +11,14 @@ use Rattle.om_world.specs.declared.event.Event.TheVariants.{Run, Give, Flush, Fl
 
 -- the process that the one word stands for
 abbrev pub process_in : List (List ℕ) → Result ℕ LineError
-process_in (word ∷ []) = or_error (number_of word) BadNumber
+process_in (word ∷ []) = ok_or (number_of word) BadNumber
 process_in _ = Err WrongCount
 
 -- an event of a process and one more number, by the words behind the first
 abbrev pub event_of_two : (ℕ → ℕ → Event) → (List ℕ → Option ℕ) → List (List ℕ) → Result Event LineError
 event_of_two event read (process ∷ other ∷ []) = do
-  p ← or_error (number_of process) BadNumber
-  k ← or_error (read other) BadNumber
+  p ← ok_or (number_of process) BadNumber
+  k ← ok_or (read other) BadNumber
   Ok (event p k)
 event_of_two event read _ = Err WrongCount
 

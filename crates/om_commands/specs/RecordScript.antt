@@ -5,7 +5,8 @@ use Rattle.om_interval.specs.declared.pid.TheConstants.{MAX_PROCESSES}
 use Rattle.om_recover.specs.declared.row.RowKind.{RowKind}
 use Rattle.om_recover.specs.declared.row.RowKind.TheVariants.{Checkpoint, Log}
 use Rattle.om_text.specs.Numbers.{number_of}
-use Rattle.om_text.specs.Reading.{◌>>=◌, all_read, refused, or_error}
+use Rattle.std.specs.Option.{ok_or}
+use Rattle.om_text.specs.Reading.{◌>>=◌, all_read, refused}
 use Rattle.om_text.specs.declared.error.LineError.{LineError}
 use Rattle.om_text.specs.declared.error.LineError.TheVariants.{UnknownLine, WrongCount, BadNumber, OutOfPlace}
 use Rattle.om_commands.specs.declared.record_script.NoteLine.{NoteLine}
@@ -22,7 +23,7 @@ no_records = record { processes = None; notes = [] }
 -- a line `procs N`, once
 abbrev pub processes_line : RecordLines → List (List ℕ) → Result RecordLines LineError
 processes_line script (word ∷ []) = do
-  n ← or_error (number_of word) BadNumber
+  n ← ok_or (number_of word) BadNumber
   _ ← refused (nat_lt n 1 || nat_lt MAX_PROCESSES n) BadNumber
   _ ← refused (is_some script.processes) OutOfPlace
   Ok (record script { processes = Some n })

@@ -1,7 +1,7 @@
 //! What is to happen to a world, by the words of a line.
 
 ghost use Rattle.std.specs.Prelude.{◌≡◌, map};
-ghost use Rattle.om_text.specs.Reading.{or_error};
+ghost use Rattle.std.specs.Option.{ok_or};
 ghost use Rattle.om_text.specs.Numbers.{long_number_of, number_of};
 ghost use Rattle.om_text.specs.declared.error.LineError.{LineError};
 ghost use Rattle.om_commands.specs.Events.{alone, event_line, event_of_two, flush_line, process_in};
@@ -96,7 +96,7 @@ fn process_in(words: &[&[u8]]) -> Result<usize, LineError>
 
 // Reads the number of a process or a frame.
 fn place_of(word: &[u8]) -> Result<usize, LineError>
-    ensures { result ≡ or_error (number_of word.now) LineError.BadNumber }
+    ensures { result ≡ ok_or (number_of word.now) LineError.BadNumber }
 {
     match number_of(word) {
         Some(number) => Ok(number as usize),

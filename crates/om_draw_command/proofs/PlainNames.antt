@@ -1,5 +1,5 @@
 -- The names of a script that was read need no escape.
-use Rattle.std.proofs.Common.{◌≡◌, ◌+◌, ◌*◌, ◌&&◌, ◌||◌, ℕ, Bool, true, false, not, List, [], ◌∷◌, ◌++◌, Result, Ok, Err, IfOk, is_some, length, map, nat_le, nat_lt, refl, subst, if◌then◌else◌, codes}
+use Rattle.std.proofs.Common.{◌≡◌, ◌+◌, ◌*◌, ◌&&◌, ◌||◌, ℕ, Bool, true, false, not, List, [], ◌∷◌, ◌++◌, Result, Ok, Err, IfOk, is_some, length, map, nat_le, nat_lt, refl, sym, subst, ◌∙◌, if◌then◌else◌, codes}
 use Rattle.std.specs.List.{list_all}
 use Rattle.std.specs.Str.{bytes_eq}
 use Rattle.om_interval.specs.declared.pid.TheConstants.{MAX_PROCESSES}
@@ -8,10 +8,14 @@ use Rattle.om_isa.specs.declared.ext.Ext.TheVariants.{I, Im}
 use Rattle.om_isa.specs.Memory.{is_memory_size}
 use Rattle.std.specs.Str.Lines.{lines as lines_in}
 use Rattle.om_text.specs.Numbers.{number_of, hex_word}
-use Rattle.om_text.specs.Reading.{◌>>=◌, or_error, refused, all_read}
-use Rattle.om_text.specs.Script.{at_line, script_from}
-use Rattle.om_text.specs.Words.{is_passed_over, words_of}
+use Rattle.std.specs.Option.{ok_or}
+use Rattle.std.specs.Result.{result_map_both}
+use Rattle.om_text.specs.Reading.{◌>>=◌, refused, all_read}
+use Rattle.om_text.specs.Script.{numbered, script_from}
+use Rattle.om_text.specs.Words.{words_of}
+use Rattle.om_text.proofs.FirstFaulty.{script-cons}
 use Rattle.om_text.specs.declared.error.LineError.{LineError}
+use Rattle.om_text.specs.declared.error.ScriptError.{ScriptError}
 use Rattle.om_text.specs.declared.error.LineError.TheVariants.{BadNumber, BadName, NameTaken, NoSuchName, OutOfPlace, TooMany, BadSize, ImageTooLong, BadWord}
 use Rattle.om_scripts.specs.Named.{is_name, place_of}
 use Rattle.om_scripts.specs.Programs.{Cluster, process_line, program_in, program_line}
@@ -70,7 +74,7 @@ program_line_kept : (ext : Ext) (cluster : Cluster) (words : List (List ℕ)) �
 program_line_kept ext cluster [] plain = tt
 program_line_kept ext cluster (name ∷ []) plain = tt
 program_line_kept ext cluster (name ∷ size ∷ words) plain =
-    program_kept ext cluster name (or_error (number_of size) BadNumber) (all_read hex_word BadWord words) (is_name name)
+    program_kept ext cluster name (ok_or (number_of size) BadNumber) (all_read hex_word BadWord words) (is_name name)
     (is_some (place_of name cluster.programs))
     cluster.is_closed refl plain
 
@@ -97,7 +101,7 @@ process_line_kept cluster [] plain = tt
 process_line_kept cluster (name ∷ []) plain = tt
 process_line_kept cluster (name ∷ program ∷ []) plain =
     process_kept cluster name (is_name name) (is_name program) (is_some (place_of name cluster.processes))
-    (or_error (place_of program cluster.programs) NoSuchName) refl plain
+    (ok_or (place_of program cluster.programs) NoSuchName) refl plain
 process_line_kept cluster (name ∷ program ∷ word ∷ words) plain = tt
 
 -- a line of a script
@@ -138,29 +142,30 @@ line_kept script (first ∷ words) plain =
 
 -- and of all its lines
 
-passed : (b : Bool) (number : ℕ) (script end : EventScript) (lines : List (List (List ℕ))) (next : Result EventScript LineError)
-    → ((s : EventScript) → HasPlainNames s.cluster → script_from event_script_line (number + 1) s lines ≡ Ok end → HasPlainNames end.cluster)
-    → HasPlainNames script.cluster → IfOk next (λ s. HasPlainNames s.cluster)
-    → ((if b then Ok script else at_line number next) >>= λ s. script_from event_script_line (number + 1) s lines) ≡ Ok end
-    → HasPlainNames end.cluster
-passed true number script end lines next rest plain kept read = rest script plain read
-passed false number script end lines (Ok s) rest plain kept read = rest s kept read
-passed false number script end lines (Err e) rest plain kept read = cc
+abbrev told : ℕ → Result EventScript LineError → Result EventScript ScriptError
+told number read = result_map_both (λ next. next) (λ error. record { line = number; error = error }) read
 
-lines_kept : (number : ℕ) (script end : EventScript) (lines : List (List (List ℕ))) → HasPlainNames script.cluster
-    → script_from event_script_line number script lines ≡ Ok end → HasPlainNames end.cluster
-lines_kept number script end [] plain read =
+passed : (number : ℕ) (end : EventScript) (lines : List (ℕ × List (List ℕ))) (next : Result EventScript LineError)
+    → ((s : EventScript) → HasPlainNames s.cluster → script_from event_script_line s lines ≡ Ok end → HasPlainNames end.cluster)
+    → IfOk next (λ s. HasPlainNames s.cluster)
+    → (told number next >>= λ s. script_from event_script_line s lines) ≡ Ok end
+    → HasPlainNames end.cluster
+passed number end lines (Ok s) rest kept read = rest s kept read
+passed number end lines (Err e) rest kept read = cc
+
+lines_kept : (lines : List (ℕ × List (List ℕ))) (script end : EventScript) → HasPlainNames script.cluster
+    → script_from event_script_line script lines ≡ Ok end → HasPlainNames end.cluster
+lines_kept [] script end plain read =
     let same : script ≡ end = cc in
     subst (λ (s : EventScript). HasPlainNames s.cluster) same plain
-lines_kept number script end (words ∷ lines) plain read =
-    passed (is_passed_over words) number script end lines (event_script_line script words)
-    (λ (s : EventScript) (p : HasPlainNames s.cluster) (r : script_from event_script_line (number + 1) s lines ≡ Ok end).
-    lines_kept (number + 1) s end lines p r) plain
-    (line_kept script words plain) read
+lines_kept (line ∷ lines) script end plain read =
+    passed line.0 end lines (event_script_line script line.1)
+    (λ (s : EventScript) (p : HasPlainNames s.cluster) (r : script_from event_script_line s lines ≡ Ok end). lines_kept lines s end p r)
+    (line_kept script line.1 plain) (sym (script-cons event_script_line script line lines) ∙ read)
 
 no_names : HasPlainNames no_events.cluster
 no_names = record { processes = refl; programs = refl }
 
 -- the names of a script
 pub names_are_plain : (bytes : List ℕ) (script : EventScript) → IsScript event_script_line no_events bytes script → HasPlainNames script.cluster
-names_are_plain bytes script is = lines_kept 1 no_events script (map words_of (lines_in bytes)) no_names is.read
+names_are_plain bytes script is = lines_kept (numbered 1 (map words_of (lines_in bytes))) no_events script no_names is.read

@@ -4,7 +4,7 @@ use Rattle.std.specs.List.{count_by}
 use Rattle.om_manager.specs.State.{process_count}
 use Rattle.om_scripts.specs.Programs.{programs_of}
 use Rattle.std.specs.Str.Lines.{lines}
-use Rattle.om_text.specs.Numbered.{numbered}
+use Rattle.om_text.specs.Script.{numbered}
 use Rattle.om_text.specs.Words.{words_of}
 use Rattle.om_world.specs.Played.{Played}
 use Rattle.om_world.specs.World.{WorldState, IsKnown}
@@ -24,7 +24,7 @@ use Rattle.om_commands.specs.SimScript.{EventScript, event_script_line, no_event
 -- the numbers of the lines of the events, which stand behind all others
 abbrev pub event_lines : List ℕ → ℕ → List ℕ
 event_lines bytes events =
-    let numbers = numbered 1 (map words_of (lines bytes)) in
+    let numbers = map (λ line. line.0) (numbered 1 (map words_of (lines bytes))) in
     drop (length numbers - events) numbers
 
 -- an event of a line is played, and this is its row: its answer, the new outputs that it handed in, and the recovery state behind it

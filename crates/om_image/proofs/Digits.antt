@@ -8,8 +8,10 @@ use Rattle.std.proofs.lemmas.Bool.{lt-ltb}
 use Rattle.std.proofs.lemmas.List.Elements.{All-cons, All-nil}
 use Rattle.hex.specs.Hex.{encode_with, lower_digits}
 use Rattle.om_text.specs.Numbers.{are_digits, hex_word}
-use Rattle.om_text.specs.Reading.{◌>>=◌, or_error, all_read}
+use Rattle.std.specs.Option.{ok_or}
+use Rattle.om_text.specs.Reading.{◌>>=◌, all_read}
 use Rattle.om_text.specs.declared.error.LineError.TheVariants as LineError
+use Rattle.om_text.proofs.Readings.{all_read_cons}
 use Rattle.om_image.specs.Image.{word_text}
 
 -- the digits, by their values
@@ -117,5 +119,6 @@ word_read_back word lt =
 pub words_read_back : (words : List ℕ) → All (λ word. word < 2 ^ 32) words → all_read hex_word LineError.BadWord (map word_text words) ≡ Ok words
 words_read_back [] all = refl
 words_read_back (word ∷ words) all =
-    ap (λ o. or_error o LineError.BadWord >>= λ w. all_read hex_word LineError.BadWord (map word_text words) >>= λ ws. Ok (w ∷ ws)) (word_read_back word (all 0 0 (omega arith)))
+    all_read_cons hex_word LineError.BadWord (word_text word) (map word_text words)
+    ∙ ap (λ o. ok_or o LineError.BadWord >>= λ w. all_read hex_word LineError.BadWord (map word_text words) >>= λ ws. Ok (w ∷ ws)) (word_read_back word (all 0 0 (omega arith)))
     ∙ ap (λ r. r >>= λ ws. Ok (word ∷ ws)) (words_read_back words (λ k d within. all (suc k) d (omega arith)))

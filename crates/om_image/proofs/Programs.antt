@@ -9,7 +9,8 @@ use Rattle.std.proofs.lemmas.List.Elements.{All-cons, All-nil}
 use Rattle.om_isa.specs.declared.ext.Ext.{Ext}
 use Rattle.om_isa.specs.Memory.{is_memory_size}
 use Rattle.om_text.specs.Numbers.{number_of, below, are_digits, hex_word}
-use Rattle.om_text.specs.Reading.{◌>>=◌, refused, or_error, all_read}
+use Rattle.std.specs.Option.{ok_or}
+use Rattle.om_text.specs.Reading.{◌>>=◌, refused, all_read}
 use Rattle.om_text.specs.declared.error.LineError.{LineError}
 use Rattle.om_text.specs.declared.error.LineError.TheVariants as faults
 use Rattle.om_scripts.specs.Named.{is_name, is_name_byte}
@@ -41,7 +42,7 @@ pub read_says : (ext : Ext) (name size : List ℕ) (texts : List (List ℕ)) (wo
 read_says ext name size texts words cluster are e = by_number (number_of size) refl e
   where
     by_number : (o : Option ℕ) → number_of size ≡ o
-        → (or_error o faults.BadNumber >>= λ n. all_read hex_word faults.BadWord texts >>= λ ws. tested (is_name name) (is_memory_size n) (nat_lt n (4 * length ws)) (record no_programs { programs = (name, program_in ext n ws) ∷ [] })) ≡ Ok cluster
+        → (ok_or o faults.BadNumber >>= λ n. all_read hex_word faults.BadWord texts >>= λ ws. tested (is_name name) (is_memory_size n) (nat_lt n (4 * length ws)) (record no_programs { programs = (name, program_in ext n ws) ∷ [] })) ≡ Ok cluster
         → IsRead ext name size words cluster
     by_number None is h = absurd (cc)
     by_number (Some n) is h =

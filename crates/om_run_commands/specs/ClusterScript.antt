@@ -2,7 +2,8 @@
 use Rattle.std.specs.Prelude.{ℕ, true, not, List, [], ◌∷◌, ◌++◌, length, Option, Result, Ok, Err, nat_le, if◌then◌else◌, ◌==◌, codes}
 use Rattle.std.specs.Str.{bytes_eq}
 use Rattle.om_text.specs.Numbers.{number_of, long_number_of}
-use Rattle.om_text.specs.Reading.{◌>>=◌, refused, or_error}
+use Rattle.std.specs.Option.{ok_or}
+use Rattle.om_text.specs.Reading.{◌>>=◌, refused}
 use Rattle.om_text.specs.declared.error.LineError.{LineError}
 use Rattle.om_text.specs.declared.error.LineError.TheVariants.{UnknownLine, WrongCount, BadNumber, BadName, NoSuchName, TooMany}
 use Rattle.om_scripts.specs.Named.{is_name, place_of}
@@ -35,9 +36,9 @@ closed script = record script { cluster = record script.cluster { is_closed = tr
 -- `kill NAME INTERVAL`, by the words behind its first
 abbrev pub kill_line : ClusterFile → List (List ℕ) → Result ClusterFile LineError
 kill_line script (name ∷ interval ∷ []) = do
-  x ← or_error (number_of interval) BadNumber
+  x ← ok_or (number_of interval) BadNumber
   _ ← refused (not (is_name name)) BadName
-  p ← or_error (place_of name script.cluster.processes) NoSuchName
+  p ← ok_or (place_of name script.cluster.processes) NoSuchName
   _ ← refused (nat_le MAX_KILLS (length script.kills)) TooMany
   Ok (closed (record script { kills = script.kills ++ (p, x) ∷ [] }))
 kill_line script _ = Err WrongCount
@@ -45,7 +46,7 @@ kill_line script _ = Err WrongCount
 -- a number of receipts or instructions, 1 or more
 abbrev pub count_in : (List ℕ → Option ℕ) → List (List ℕ) → Result ℕ LineError
 count_in read (word ∷ []) = do
-  k ← or_error (read word) BadNumber
+  k ← ok_or (read word) BadNumber
   _ ← refused (k == 0) BadNumber
   Ok k
 count_in read _ = Err WrongCount

@@ -8,7 +8,8 @@ use Rattle.om_isa.specs.declared.ext.Ext.TheVariants.{I, Im}
 use Rattle.om_isa.specs.Memory.{is_memory_size}
 use Rattle.om_process.specs.Process.{Program}
 use Rattle.om_text.specs.Numbers.{number_of, hex_word}
-use Rattle.om_text.specs.Reading.{◌>>=◌, all_read, refused, or_error}
+use Rattle.std.specs.Option.{ok_or}
+use Rattle.om_text.specs.Reading.{◌>>=◌, all_read, refused}
 use Rattle.om_text.specs.declared.error.LineError.{LineError}
 use Rattle.om_text.specs.declared.error.LineError.TheVariants.{UnknownLine, WrongCount, BadNumber, BadWord, BadName, NameTaken, NoSuchName, OutOfPlace, TooMany, BadSize, ImageTooLong}
 use Rattle.om_scripts.specs.Named.{is_name, place_of}
@@ -48,7 +49,7 @@ program_in ext size words = record { image = flat_map (to_le_bytes w32) words; s
 -- a line `program NAME SIZE WORD ..`, by the words behind its first
 abbrev pub program_line : Ext → Cluster → List (List ℕ) → Result Cluster LineError
 program_line ext cluster (name ∷ size ∷ words) = do
-  bytes ← or_error (number_of size) BadNumber
+  bytes ← ok_or (number_of size) BadNumber
   image ← all_read hex_word BadWord words
   _ ← refused (not (is_name name)) BadName
   _ ← refused (is_some (place_of name cluster.programs)) NameTaken
@@ -63,7 +64,7 @@ abbrev pub process_line : Cluster → List (List ℕ) → Result Cluster LineErr
 process_line cluster (name ∷ program ∷ []) = do
   _ ← refused (not (is_name name) || not (is_name program)) BadName
   _ ← refused (is_some (place_of name cluster.processes)) NameTaken
-  place ← or_error (place_of program cluster.programs) NoSuchName
+  place ← ok_or (place_of program cluster.programs) NoSuchName
   _ ← refused cluster.is_closed OutOfPlace
   _ ← refused (nat_le MAX_PROCESSES (length cluster.processes)) TooMany
   Ok (record cluster { processes = cluster.processes ++ (name, place) ∷ [] })

@@ -1,75 +1,112 @@
--- The first faulty line of a script.
-use Rattle.std.proofs.Common.{◌≡◌, ℕ, ◌+◌, List, [], ◌∷◌, ◌++◌, length, Result, Ok, Err, Bool, true, false, cond, refl, sym, ap, ◌∙◌, arith}
+-- A script line by line, and its first faulty line.
+use Rattle.std.proofs.Common.{◌≡◌, ℕ, ◌+◌, List, [], ◌∷◌, ◌++◌, map, fold, not, Result, Ok, Err, Bool, true, false, cond, if◌then◌else◌, refl, sym, ap, ◌∙◌}
+use Rattle.std.specs.Result.{result_map_both}
 use Rattle.om_text.specs.declared.error.LineError.{LineError}
 use Rattle.om_text.specs.declared.error.ScriptError.{ScriptError}
 use Rattle.om_text.specs.Reading.{◌>>=◌}
 use Rattle.om_text.specs.Words.{is_passed_over}
-use Rattle.om_text.specs.Script.{at_line, after_line, script_from}
-use Rattle.om_text.specs.FirstFaulty.{IsFirstFaulty}
+use Rattle.om_text.specs.Script.{IsFirstFaulty, Meaning, at_line, numbered, script_from}
+
+-- the numbers of the lines, one line further
+pub numbers-cons : (number : ℕ) (words : List (List ℕ)) (lines : List (List (List ℕ)))
+    → map (λ line. line.0) (numbered number (words ∷ lines))
+    ≡ (if is_passed_over words then map (λ line. line.0) (numbered (number + 1) lines) else number ∷ map (λ line. line.0) (numbered (number + 1) lines))
+numbers-cons number words lines = by (is_passed_over words) (numbered (number + 1) lines)
+  where
+    by : (passed : Bool) (rest : List (ℕ × List (List ℕ)))
+        → map (λ line. line.0) (cond (not passed) ((number, words) ∷ rest) rest)
+        ≡ (if passed then map (λ line. line.0) rest else number ∷ map (λ line. line.0) rest)
+    by true rest = refl
+    by false rest = refl
 
 module _ {State : Type 0} (meaning : State → List (List ℕ) → Result State LineError) where
-  after_line-is : (number : ℕ) (state : State) (line : List (List ℕ)) (passed : Bool) (next : Result State LineError) → is_passed_over line ≡ passed → meaning state line ≡ next
-      → after_line meaning number state line ≡ cond passed (Ok state) (at_line number next)
-  after_line-is number state line passed next p q = ap (λ b. cond b (Ok state) (at_line number (meaning state line))) p ∙ ap (λ r. cond passed (Ok state) (at_line number r)) q
+  abbrev step : Result State ScriptError → ℕ × List (List ℕ) → Result State ScriptError
+  step read line = read >>= λ reached. at_line meaning reached line
 
-  later_faulty : (number : ℕ) (state next : State) (line : List (List ℕ)) (lines : List (List (List ℕ))) (error : ScriptError) → after_line meaning number state line ≡ Ok next
-      → IsFirstFaulty meaning (number + 1) next lines error → IsFirstFaulty meaning number state (line ∷ lines) error
-  later_faulty number state next line lines error read later = record {
+  error_stays : (error : ScriptError) (lines : List (ℕ × List (List ℕ))) → fold step (Err error) lines ≡ Err error
+  error_stays error [] = refl
+  error_stays error (line ∷ lines) = error_stays error lines
+
+  from_first : (first : Result State ScriptError) (lines : List (ℕ × List (List ℕ))) → fold step first lines ≡ (first >>= λ next. script_from meaning next lines)
+  from_first (Ok state) lines = refl
+  from_first (Err error) lines = error_stays error lines
+
+  -- the first line, and then the others
+  pub script-cons : (state : State) (line : ℕ × List (List ℕ)) (lines : List (ℕ × List (List ℕ)))
+      → script_from meaning state (line ∷ lines) ≡ (at_line meaning state line >>= λ next. script_from meaning next lines)
+  script-cons state line lines = from_first (at_line meaning state line) lines
+
+  -- the same of a line that may be passed over
+  pub script_line : (number : ℕ) (state : State) (words : List (List ℕ)) (lines : List (List (List ℕ)))
+      → script_from meaning state (numbered number (words ∷ lines))
+      ≡ ((if is_passed_over words then Ok state else at_line meaning state (number, words)) >>= λ next. script_from meaning next (numbered (number + 1) lines))
+  script_line number state words lines = by (is_passed_over words) (numbered (number + 1) lines)
+    where
+      by : (passed : Bool) (rest : List (ℕ × List (List ℕ)))
+          → script_from meaning state (cond (not passed) ((number, words) ∷ rest) rest)
+          ≡ ((if passed then Ok state else at_line meaning state (number, words)) >>= λ next. script_from meaning next rest)
+      by true rest = refl
+      by false rest = script-cons state (number, words) rest
+
+  abbrev told : ℕ → Result State LineError → Result State ScriptError
+  told number read = result_map_both (λ next. next) (λ error. record { line = number; error = error }) read
+
+  later_faulty : (state next : State) (line : ℕ × List (List ℕ)) (lines : List (ℕ × List (List ℕ))) (error : ScriptError) → meaning state line.1 ≡ Ok next
+      → IsFirstFaulty meaning next lines error → IsFirstFaulty meaning state (line ∷ lines) error
+  later_faulty state next line lines error read later = record {
     before = line ∷ later.before;
-    line = later.line;
+    words = later.words;
     after = later.after;
     reached = later.reached;
     parts = ap (λ more. line ∷ more) later.parts;
-    place = omega (arith, later.place);
-    all_read = ap (λ r. r >>= λ s. script_from meaning (number + 1) s later.before) read ∙ later.all_read;
-    is_read = later.is_read;
+    all_read =
+        script-cons state line later.before
+        ∙ ap (λ r. told line.0 r >>= λ s. script_from meaning s later.before) read
+        ∙ later.all_read;
     is_faulty = later.is_faulty;
   }
 
-  faulty_by_line : (number : ℕ) (state : State) (line : List (List ℕ)) (lines : List (List (List ℕ))) (error : ScriptError)
-      → ((next : State) → script_from meaning (number + 1) next lines ≡ Err error → IsFirstFaulty meaning (number + 1) next lines error)
-      → (passed : Bool) (next : Result State LineError) → is_passed_over line ≡ passed → meaning state line ≡ next
-      → (cond passed (Ok state) (at_line number next) >>= λ s. script_from meaning (number + 1) s lines) ≡ Err error → IsFirstFaulty meaning number state (line ∷ lines) error
-  faulty_by_line number state line lines error later true next p q h = later_faulty number state state line lines error (after_line-is number state line true next p q) (later state h)
-  faulty_by_line number state line lines error later false (Ok next) p q h = later_faulty number state next line lines error (after_line-is number state line false (Ok next) p q) (later next h)
-  faulty_by_line number state line lines error later false (Err wrong) p q h =
-      let here : record { line = number; error = wrong } ≡ error = cc in
+  faulty_by_line : (state : State) (line : ℕ × List (List ℕ)) (lines : List (ℕ × List (List ℕ))) (error : ScriptError)
+      → ((next : State) → script_from meaning next lines ≡ Err error → IsFirstFaulty meaning next lines error)
+      → (next : Result State LineError) → meaning state line.1 ≡ next → (told line.0 next >>= λ s. script_from meaning s lines) ≡ Err error
+      → IsFirstFaulty meaning state (line ∷ lines) error
+  faulty_by_line state line lines error later (Ok next) is h = later_faulty state next line lines error is (later next h)
+  faulty_by_line state line lines error later (Err wrong) is h =
+      let here : record { line = line.0; error = wrong } ≡ error = cc in
       record {
         before = [];
-        line = line;
+        words = line.1;
         after = lines;
         reached = state;
-        parts = refl;
-        place = omega (arith, ap (λ (f : ScriptError). f.line) here);
+        parts = ap (λ (f : ScriptError). (f.line, line.1) ∷ lines) here;
         all_read = refl;
-        is_read = p;
-        is_faulty = q ∙ ap (λ (f : ScriptError). Err f.error) here;
+        is_faulty = is ∙ ap (λ (f : ScriptError). Err f.error) here;
       }
 
   -- the error of a script is that of its first faulty line
-  pub IsFirstFaulty-from_script : (lines : List (List (List ℕ))) (number : ℕ) (state : State) (error : ScriptError) → script_from meaning number state lines ≡ Err error → IsFirstFaulty meaning number state lines error
-  IsFirstFaulty-from_script [] number state error h = cc
-  IsFirstFaulty-from_script (line ∷ lines) number state error h =
-      let by_line : after_line meaning number state line ≡ cond (is_passed_over line) (Ok state) (at_line number (meaning state line)) = refl in
-      faulty_by_line number state line lines error (λ next. IsFirstFaulty-from_script lines (number + 1) next error) (is_passed_over line) (meaning state line) refl refl h
+  pub IsFirstFaulty-from_script : (lines : List (ℕ × List (List ℕ))) (state : State) (error : ScriptError) → script_from meaning state lines ≡ Err error → IsFirstFaulty meaning state lines error
+  IsFirstFaulty-from_script [] state error h = cc
+  IsFirstFaulty-from_script (line ∷ lines) state error h =
+      faulty_by_line state line lines error (λ next. IsFirstFaulty-from_script lines next error) (meaning state line.1) refl (sym (script-cons state line lines) ∙ h)
 
-  ends_after : (first : List (List ℕ)) (before : List (List (List ℕ))) (number : ℕ) (state reached : State) (line : List (List ℕ)) (after : List (List (List ℕ))) (error : ScriptError) → error.line ≡ number + length (first ∷ before)
-      → (step : Result State ScriptError) → (step >>= λ s. script_from meaning (number + 1) s before) ≡ Ok reached → is_passed_over line ≡ false → meaning reached line ≡ Err error.error
-      → ((next : State) → script_from meaning (number + 1) next before ≡ Ok reached → script_from meaning (number + 1) next (before ++ line ∷ after) ≡ Err error)
-      → (step >>= λ s. script_from meaning (number + 1) s (before ++ line ∷ after)) ≡ Err error
-  ends_after first before number state reached line after error place (Ok next) h p q later = later next h
-  ends_after first before number state reached line after error place (Err e) h p q later = cc
+  ends_after : (before rest : List (ℕ × List (List ℕ))) (reached : State) (error : ScriptError) (step : Result State ScriptError)
+      → (step >>= λ s. script_from meaning s before) ≡ Ok reached
+      → ((next : State) → script_from meaning next before ≡ Ok reached → script_from meaning next rest ≡ Err error)
+      → (step >>= λ s. script_from meaning s rest) ≡ Err error
+  ends_after before rest reached error (Ok next) h later = later next h
+  ends_after before rest reached error (Err e) h later = cc
 
-  ends_at : (before : List (List (List ℕ))) (number : ℕ) (state reached : State) (line : List (List ℕ)) (after : List (List (List ℕ))) (error : ScriptError) → error.line ≡ number + length before
-      → script_from meaning number state before ≡ Ok reached → is_passed_over line ≡ false → meaning reached line ≡ Err error.error → script_from meaning number state (before ++ line ∷ after) ≡ Err error
-  ends_at [] number state reached line after error place h p q =
+  ends_at : (before : List (ℕ × List (List ℕ))) (state reached : State) (words : List (List ℕ)) (after : List (ℕ × List (List ℕ))) (error : ScriptError)
+      → script_from meaning state before ≡ Ok reached → meaning reached words ≡ Err error.error → script_from meaning state (before ++ (error.line, words) ∷ after) ≡ Err error
+  ends_at [] state reached words after error h q =
       let same : state ≡ reached = cc in
-      let here : error.line ≡ number = omega (arith, place) in
-      let step = after_line-is number state line false (Err error.error) p (ap (λ s. meaning s line) same ∙ q) in
-      ap (λ r. r >>= λ s. script_from meaning (number + 1) s after) step ∙ ap (λ n. Err (record { line = n; error = error.error })) (sym here)
-  ends_at (first ∷ before) number state reached line after error place h p q =
-      ends_after first before number state reached line after error place (after_line meaning number state first) h p q (λ next g. ends_at before (number + 1) next reached line after error (omega (arith, place)) g p q)
+      script-cons state (error.line, words) after
+      ∙ ap (λ r. told error.line r >>= λ s. script_from meaning s after) (ap (λ s. meaning s words) same ∙ q)
+  ends_at (first ∷ before) state reached words after error h q =
+      script-cons state first (before ++ (error.line, words) ∷ after)
+      ∙ ends_after before (before ++ (error.line, words) ∷ after) reached error (at_line meaning state first)
+      (sym (script-cons state first before) ∙ h) (λ next g. ends_at before next reached words after error g q)
 
-  pub script-from_IsFirstFaulty : (lines : List (List (List ℕ))) (number : ℕ) (state : State) (error : ScriptError) → IsFirstFaulty meaning number state lines error → script_from meaning number state lines ≡ Err error
-  script-from_IsFirstFaulty lines number state error first =
-      ap (script_from meaning number state) first.parts ∙ ends_at first.before number state first.reached first.line first.after error first.place first.all_read first.is_read first.is_faulty
+  pub script-from_IsFirstFaulty : (lines : List (ℕ × List (List ℕ))) (state : State) (error : ScriptError) → IsFirstFaulty meaning state lines error → script_from meaning state lines ≡ Err error
+  script-from_IsFirstFaulty lines state error first =
+      ap (script_from meaning state) first.parts ∙ ends_at first.before state first.reached first.words first.after error first.all_read first.is_faulty

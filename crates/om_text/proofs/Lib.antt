@@ -1,3 +1,4 @@
 pub mod Digits
 pub mod FirstFaulty
 pub mod Parts
+pub mod Readings

@@ -1,5 +1,6 @@
 -- Readings that end in a value or in an error.
-use Rattle.std.specs.Prelude.{◌≡◌, ℕ, List, [], ◌∷◌, Bool, true, false, Option, None, Some, Result, Ok, Err}
+use Rattle.std.specs.Prelude.{◌≡◌, ℕ, List, Bool, true, false, Option, is_some, filter_map, Result, Ok, Err, if◌then◌else◌}
+use Rattle.std.specs.List.{list_all}
 use Rattle.om_text.specs.declared.error.BuildError.{BuildError}
 use Rattle.om_text.specs.declared.error.BuildError.TheVariants as errors
 
@@ -14,18 +15,9 @@ abbrev pub refused : {F : Type 0} → Bool → F → Result (Unit {0}) F
 refused true error = Err error
 refused false error = Ok tt
 
--- the value, where there is one; else the error
-abbrev pub or_error : {A F : Type 0} → Option A → F → Result A F
-or_error None error = Err error
-or_error (Some x) error = Ok x
-
 -- the reading of each word, in order; where one has none, the error
 abbrev pub all_read : {A F : Type 0} → (List ℕ → Option A) → F → List (List ℕ) → Result (List A) F
-all_read read error [] = Ok []
-all_read read error (word ∷ words) = do
-  x ← or_error (read word) error
-  xs ← all_read read error words
-  Ok (x ∷ xs)
+all_read read error words = if list_all (λ word. is_some (read word)) words then Ok (filter_map read words) else Err error
 
 -- what a function returned, seen by view, is what the reading gives, unless memory ran out
 abbrev pub Gives : {X Y F : Type 0} → (X → Y) → Result X (BuildError F) → Result Y F → Type 0

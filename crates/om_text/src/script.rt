@@ -1,11 +1,11 @@
 //! Scripts, over any meaning of a line.
 
-ghost use Rattle.std.specs.Prelude.{ℕ, List, map, Result};
+ghost use Rattle.std.specs.Prelude.{ℕ, List, map, Result, Ok, if◌then◌else◌};
 ghost use Rattle.std.specs.Str.Lines.{lines};
 ghost use Rattle.om_text.specs.declared.error.LineError.{LineError};
 ghost use Rattle.om_text.specs.Reading.{Gives};
-ghost use Rattle.om_text.specs.Script.{after_line, script_from};
-ghost use Rattle.om_text.specs.Words.{words_of};
+ghost use Rattle.om_text.specs.Script.{at_line, numbered, script_from};
+ghost use Rattle.om_text.specs.Words.{is_passed_over, words_of};
 
 use crate::error::{BuildError, LineError, ScriptError};
 use crate::lines::split_line;
@@ -33,13 +33,14 @@ pub trait Builder {
 
 /// Reads a whole script: what its lines build, or the error of the first faulty one. Lines without
 /// words, and those whose first word begins with `#`, are passed over.
+#[tactic(auto, using(crate::proofs::FirstFaulty::script_line))]
 pub fn read_script<B: Builder + Drop>(
     alloc: Global,
     text: &[u8],
     builder: B,
 ) -> Result<B, BuildError<ScriptError>>
     ensures { Gives B.state result
-        (script_from B.meaning 1 (B.state builder) (map words_of (lines text.now))) }
+        (script_from B.meaning (B.state builder) (numbered 1 (map words_of (lines text.now)))) }
 {
     let mut builder = builder;
     let mut words = Vec::new(alloc);
@@ -62,7 +63,8 @@ fn take_line<B: Builder>(
     builder: &mut B,
 ) -> Result<(), BuildError<ScriptError>>
     ensures { Gives (λ _. B.state builder.new) result
-        (after_line B.meaning number (B.state builder.old) (map (λ word. word.now) words.now)) }
+        (let line = map (λ word. word.now) words.now in
+        if is_passed_over line then Ok (B.state builder.old) else at_line B.meaning (B.state builder.old) (number, line)) }
 {
     if is_passed_over(words) {
         return Ok(());
