@@ -5,7 +5,7 @@ use Rattle.om_text.specs.declared.error.LineError.{LineError}
 use Rattle.om_text.specs.declared.error.ScriptError.{ScriptError}
 use Rattle.om_text.specs.Reading.{◌>>=◌}
 use Rattle.om_text.specs.Words.{is_passed_over}
-use Rattle.om_text.specs.Script.{IsFirstFaulty, Meaning, at_line, numbered, script_from}
+use Rattle.om_text.specs.Script.{IsFirstFaulty, at_line, numbered, script_from}
 
 -- the numbers of the lines, one line further
 pub numbers-cons : (number : ℕ) (words : List (List ℕ)) (lines : List (List (List ℕ)))

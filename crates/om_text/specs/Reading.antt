@@ -1,5 +1,5 @@
 -- Readings that end in a value or in an error.
-use Rattle.std.specs.Prelude.{◌≡◌, ℕ, List, Bool, true, false, Option, is_some, filter_map, Result, Ok, Err, if◌then◌else◌}
+use Rattle.std.specs.Prelude.{◌≡◌, ℕ, List, Bool, Option, is_some, filter_map, Result, Ok, Err, if◌then◌else◌}
 use Rattle.std.specs.List.{list_all}
 use Rattle.om_text.specs.declared.error.BuildError.{BuildError}
 use Rattle.om_text.specs.declared.error.BuildError.TheVariants as errors
@@ -12,8 +12,7 @@ abbrev pub ◌>>=◌ : {A B F : Type 0} → Result A F → (A → Result B F) �
 
 -- the error, where this holds; else the reading goes on
 abbrev pub refused : {F : Type 0} → Bool → F → Result (Unit {0}) F
-refused true error = Err error
-refused false error = Ok tt
+refused holds error = if holds then Err error else Ok tt
 
 -- the reading of each word, in order; where one has none, the error
 abbrev pub all_read : {A F : Type 0} → (List ℕ → Option A) → F → List (List ℕ) → Result (List A) F
