@@ -1,5 +1,5 @@
 -- The `program` line of a raw image.
-use Rattle.std.specs.Prelude.{◌≡◌, ℕ, ◌+◌, ◌<◌, ◌≤◌, List, [], ◌∷◌, ◌++◌, codes, flat_map, length, map, replicate, slice_index, take, Some, Ok, Err}
+use Rattle.std.specs.Prelude.{◌≡◌, ◌≢◌, ℕ, ◌+◌, ◌<◌, List, [], ◌∷◌, ◌++◌, codes, flat_map, map, replicate, take, Some, Ok, Err}
 use Rattle.std.specs.Int.{to_be_bytes, to_le_bytes, w32}
 use Rattle.std.specs.Str.Lines.{lines}
 use Rattle.hex.specs.Hex.{encode_lower}
@@ -45,12 +45,8 @@ IsRefused ext name size bytes error = (words : List ℕ) × IsPadded bytes (flat
     × (program_line ext no_programs (name ∷ size ∷ map word_text words) ≡ Err error)
 
 -- the bytes begin as a linked program does, an ELF file
-pub record IsElf (bytes : List ℕ) : Type 0 where
-  pub four : 4 ≤ length bytes
-  pub first : slice_index bytes 0 ≡ 127
-  pub second : slice_index bytes 1 ≡ 69
-  pub third : slice_index bytes 2 ≡ 76
-  pub fourth : slice_index bytes 3 ≡ 70
+abbrev pub IsElf : List ℕ → Type 0
+IsElf bytes = take 4 bytes ≡ 127 ∷ codes "ELF"
 
 -- at most so many bytes are read: one more than a memory may have
 abbrev pub most_read : ℕ
@@ -64,5 +60,4 @@ IsErrorOf ext name size bytes _ = Unit {0}
 
 -- no error but a writer's leaves anything written
 abbrev pub IsSilent : ImageError → Type 0 → Type 0
-IsSilent errors.CannotWrite kept = Unit {0}
-IsSilent _ kept = kept
+IsSilent error kept = error ≢ errors.CannotWrite → kept
