@@ -1,5 +1,5 @@
 -- What becomes of an interval, one event further.
-use Rattle.std.proofs.Common.{◌≡◌, ◌∙◌, ◌≤◌, ◌-◌, ◌==◌, ◌||◌, ◌&&◌, ℕ, Bool, true, false, not, if◌then◌else◌, is_none, is_some, List, [], ◌∷◌, ◌++◌, Option, Some, None, length, max, refl, ap, sym, arith, append_assoc}
+use Rattle.std.proofs.Common.{◌≡◌, ◌∙◌, ◌≤◌, ◌==◌, ◌||◌, ◌&&◌, ℕ, Bool, true, false, not, if◌then◌else◌, is_none, is_some, List, [], ◌∷◌, ◌++◌, Option, Some, None, max, refl, ap, sym, arith, append_assoc}
 use Rattle.std.specs.List.{fold}
 use Rattle.std.specs.Prelude.{nat_le, slice_index}
 use Rattle.std.proofs.Math.Bool.{and-false}
@@ -16,7 +16,7 @@ use Rattle.om_world.specs.declared.event.Refusal.TheVariants as refusals
 use Rattle.om_picture.specs.Drawing.{mark_marks, waiting_marks}
 use Rattle.om_picture.specs.Fates.{EventRow, Fate, Progress, cuts, ended_after, fate_behind, highest, is_cut, is_saved, next_ended, next_place, next_progress, progress_after, saved}
 use Rattle.om_picture.specs.Marks.{EventMark}
-use Rattle.om_sheet.specs.Shows.{end_of, is_finished, new_end, shown}
+use Rattle.om_sheet.specs.Shows.{end_of, is_finished, shown}
 use Rattle.om_picture.specs.declared.history.Mark.{Mark}
 use Rattle.om_sheet.specs.declared.shown.Shown.TheVariants as shows
 use Rattle.om_picture.specs.steps.Adding.{ended_shown, fate_amid, fate_now, kept, progress_shown}
@@ -183,7 +183,8 @@ resend_ended false was sent = refl
 pub progress_told : (ended : Bool) (event : Event) (answer : Answer) (was : Progress)
     → progress_shown was (shown ended event answer) ≡ progress_after event answer was
 progress_told ended (events.Run process fuel) (answers.Ran steps status sent made) was =
-    run_progress ((sent == 0) && ((made == 0) && is_none (new_end ended status))) was sent made (new_end ended status)
+    let ends : Option Status = if ended then None else end_of status in
+    run_progress ((sent == 0) && ((made == 0) && is_none ends)) was sent made ends
 progress_told ended (events.Run process fuel) answer was = refl
 progress_told ended (events.Give process frame) (answers.Given (accepts.Taken interval)) was = refl
 progress_told ended (events.Give process frame) (answers.Given accept) was = refl

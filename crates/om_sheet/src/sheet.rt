@@ -141,25 +141,29 @@ pub struct Shape {
     pub title: Title,
 }
 
+/// The form of a mark.
 #[derive(Clone, Copy)]
 pub enum Glyph {
+    /// A receipt: filled, if it is stored.
     Receipt { stored: bool },
     Checkpoint,
     /// The stem of outputs; again, they were all made before.
     Stem { again: bool },
-    /// Its head.
+    /// Its head, where some are new: filled, if they are released.
     Head { released: bool },
     /// The end of a program.
     End,
     /// A run or a resend.
     Dot,
+    /// A frame that was not taken.
     Refused,
-    /// From the first receipt that it stores.
+    /// Receipts that were in memory only are stored: from the first of them.
     Flush { from: u32 },
     Failure,
     Join,
     Back,
     GoesOn,
+    /// Outputs that were held are released.
     Released,
 }
 

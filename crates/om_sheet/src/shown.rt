@@ -1,7 +1,9 @@
 //! What an event shows, by its answer.
 
-ghost use Rattle.std.specs.Prelude.{◌≡◌};
-ghost use Rattle.om_sheet.specs.Shows.{checkpoint_shown, end_of, failure_shown, first_shown, flush_shown, give_shown, is_finished, join_shown, refusal_shown, resend_shown, resume_shown, run_shown, shown};
+ghost use Rattle.std.specs.Prelude.{◌≡◌, Bool, ℕ};
+ghost use Rattle.om_sheet.specs.Shows.{end_of, is_finished, shown};
+ghost use Rattle.om_world.specs.declared.event.Answer.TheVariants as answers;
+ghost use Rattle.om_world.specs.declared.event.Event.TheVariants as events;
 
 use crate::step::PlayedEvent;
 use om_manager::Gathered;
@@ -70,7 +72,7 @@ pub fn shown_of(step: &PlayedEvent, ended: bool) -> Shown
 }
 
 fn run_shown(answer: Answer, ended: bool) -> Shown
-    ensures { result ≡ run_shown ended answer }
+    ensures { (process fuel : ℕ) → result ≡ shown ended (events.Run process fuel) answer }
 {
     let Answer::Ran {
         status,
@@ -99,7 +101,7 @@ fn end_of(status: Status) -> Option<Status>
 }
 
 fn give_shown(answer: Answer, frame: usize) -> Shown
-    ensures { result ≡ give_shown frame answer }
+    ensures { (ended : Bool) (process : ℕ) → result ≡ shown ended (events.Give process frame) answer }
 {
     match answer {
         Answer::Given(Accept::Taken(interval)) => Shown::Receipt { frame, interval },
@@ -109,7 +111,7 @@ fn give_shown(answer: Answer, frame: usize) -> Shown
 }
 
 fn refusal_shown(why: Refusal, frame: usize) -> Shown
-    ensures { result ≡ refusal_shown frame why }
+    ensures { (ended : Bool) (process : ℕ) → result ≡ shown ended (events.Give process frame) (answers.Refused why) }
 {
     match why {
         Refusal::NoFrame | Refusal::NoProcess => Shown::Nothing,
@@ -118,7 +120,7 @@ fn refusal_shown(why: Refusal, frame: usize) -> Shown
 }
 
 fn flush_shown(answer: Answer) -> Shown
-    ensures { result ≡ flush_shown answer }
+    ensures { (ended : Bool) (process : ℕ) → result ≡ shown ended (events.Flush process) answer }
 {
     match answer {
         Answer::Noted(count) if count > 0 => Shown::Flush,
@@ -128,7 +130,7 @@ fn flush_shown(answer: Answer) -> Shown
 
 // Returns what is shown of a flush of so many receipts.
 fn first_shown(answer: Answer, many: usize) -> Shown
-    ensures { result ≡ first_shown many answer }
+    ensures { (ended : Bool) (process : ℕ) → result ≡ shown ended (events.FlushFirst process many) answer }
 {
     match answer {
         Answer::Noted(count) => {
@@ -142,7 +144,8 @@ fn first_shown(answer: Answer, many: usize) -> Shown
 }
 
 fn checkpoint_shown(answer: Answer) -> Shown
-    ensures { result ≡ checkpoint_shown answer }
+    ensures checkpoint { (ended : Bool) (process : ℕ) → result ≡ shown ended (events.Checkpoint process) answer }
+    ensures spell { (ended : Bool) (process : ℕ) → result ≡ shown ended (events.Spell process) answer }
 {
     match answer {
         Answer::Noted(_) => Shown::Checkpoint,
@@ -151,7 +154,7 @@ fn checkpoint_shown(answer: Answer) -> Shown
 }
 
 fn resend_shown(answer: Answer) -> Shown
-    ensures { result ≡ resend_shown answer }
+    ensures { (ended : Bool) (process : ℕ) → result ≡ shown ended (events.Resend process) answer }
 {
     match answer {
         Answer::Resent(sent) if sent > 0 => Shown::Resend { sent },
@@ -160,7 +163,7 @@ fn resend_shown(answer: Answer) -> Shown
 }
 
 fn failure_shown(answer: Answer) -> Shown
-    ensures { result ≡ failure_shown answer }
+    ensures { (ended : Bool) (process : ℕ) → result ≡ shown ended (events.Fail process) answer }
 {
     match answer {
         Answer::Gathered(_) => Shown::Failure { declared: true },
@@ -170,7 +173,7 @@ fn failure_shown(answer: Answer) -> Shown
 }
 
 fn join_shown(answer: Answer) -> Shown
-    ensures { result ≡ join_shown answer }
+    ensures { (ended : Bool) (process : ℕ) → result ≡ shown ended (events.Join process) answer }
 {
     match answer {
         Answer::Gathered(_) => Shown::Join,
@@ -179,7 +182,7 @@ fn join_shown(answer: Answer) -> Shown
 }
 
 fn resume_shown(answer: Answer) -> Shown
-    ensures { result ≡ resume_shown answer }
+    ensures { (ended : Bool) (process : ℕ) → result ≡ shown ended (events.Resume process) answer }
 {
     match answer {
         Answer::Back { interval, inc } => Shown::Back { interval, inc },
