@@ -1,7 +1,8 @@
 -- What is drawn of an event, and of all events of a window.
-use Rattle.std.proofs.Common.{◌≡◌, ◌≢◌, ◌∙◌, ◌+◌, ◌*◌, ◌^◌, ◌<◌, ◌≤◌, ◌||◌, ◌&&◌, ◌⊎◌, ℕ, zero, suc, Bool, true, false, if◌then◌else◌, max, List, [], ◌∷◌, ◌++◌, Option, Some, None, Result, OnOk, length, map, get_or, set, refl, ap, sym, subst, inl, inr, arith, append_assoc, get_or-set_other, length-set}
+use Rattle.std.proofs.Common.{◌≡◌, ◌≢◌, ◌∙◌, ◌+◌, ◌*◌, ◌^◌, ◌<◌, ◌≤◌, ◌==◌, ◌||◌, ◌&&◌, ◌⊎◌, ℕ, zero, suc, Bool, true, false, if◌then◌else◌, max, List, [], ◌∷◌, ◌++◌, Option, Some, None, Result, OnOk, length, map, get_or, set, refl, ap, sym, subst, inl, inr, arith, append_assoc, get_or-set_other, length-set}
 use Rattle.std.specs.Prelude.{nat_le, nat_lt, slice_index}
-use Rattle.std.specs.List.{flat_map, sum_by}
+use Rattle.std.specs.List.{flat_map, list_any, sum_by}
+use Rattle.std.specs.Option.{option_map_or}
 use Rattle.std.specs.declared.alloc.AllocError.{AllocError}
 use Rattle.std.proofs.Math.Bool.{or-false, or_assoc}
 use Rattle.std.proofs.lemmas.Bool.{eq-eqb, lt-ltb, le-ltb, ltb-true}
@@ -13,9 +14,9 @@ use Rattle.om_world.specs.declared.event.Answer.{Answer}
 use Rattle.om_world.specs.declared.event.Event.{Event}
 use Rattle.om_interval.specs.declared.pid.TheConstants.{MAX_PROCESSES}
 use Rattle.om_picture.specs.Drawing.{Edge, IsLaneOf, IsSketchOf, LaneState, Sketch, all_marks, held_in, held_of, lane_in, lane_marks, lane_of, lanes_marks, new_lane, waiting_marks}
-use Rattle.om_picture.specs.Fates.{EventRow, Fate, Progress, ended_after, fate_behind, fate_of, has_ended, has_loose, highest, interval_behind, is_of, is_process, next_ended, next_place, next_progress, progress_after, progress_behind, step_row}
-use Rattle.om_picture.specs.Held.{Held, covered_by, held_behind, is_any_elsewhere, left_by, may_wait, releases, left_behind}
-use Rattle.om_picture.specs.Marks.{AreTheSame, EventMark, event_marks, fated_marks, is_reached, marks_among, marks_on, released_at, released_below, row_marks, shape_marks, sure_marks}
+use Rattle.om_picture.specs.Fates.{EventRow, Fate, Progress, ended_after, fate_behind, fate_of, has_ended, has_loose, highest, interval_behind, is_of, next_ended, next_place, next_progress, progress_after, progress_behind, step_row}
+use Rattle.om_picture.specs.Held.{Held, covered_by, held_behind, is_elsewhere, left_by, may_wait, releases, left_behind}
+use Rattle.om_picture.specs.Marks.{AreTheSame, EventMark, event_marks, is_reached, marks_among, marks_on, released_at, released_below, row_marks, shape_marks, sure_marks}
 use Rattle.om_picture.specs.Places.{ArePlaced, IsPlacedBehind, has_column, is_shown, rightmost, shows_on}
 use Rattle.om_sheet.specs.Shows.{is_finished, process_of, shown}
 use Rattle.om_picture.specs.declared.column.TheConstants.{MOST_COLUMNS, MOST_LEFT, WIDEST}
@@ -25,7 +26,7 @@ use Rattle.om_sheet.specs.declared.sheet.Shape.{Shape}
 use Rattle.om_sheet.specs.declared.sheet.Spot.{Spot}
 use Rattle.om_sheet.specs.declared.shown.Shown.{Shown}
 use Rattle.om_sheet.specs.declared.step.PlayedEvent.{PlayedEvent}
-use Rattle.om_picture.specs.steps.Adding.{AreNew, IsAmid, LaneShows, LearnsAll, PlacesEvent, ReachesWindow, SettlesAll, SettlesIf, Shows, ShowsEvent, ShowsOn, Stays, amid_marks, fate_amid, fate_now, freed_below, frees, lane_number, now_marks, shows_at}
+use Rattle.om_picture.specs.steps.Adding.{AreNew, IsAmid, LaneShows, LearnsAll, PlacesEvent, ReachesWindow, SettlesAll, SettlesIf, Shows, ShowsEvent, ShowsOn, Stays, amid_marks, fate_amid, fate_now, fated_if, freed_below, frees, lane_number, now_marks, shows_at}
 use Rattle.om_picture.proofs.FateLemmas.{end_fate, ended_more, ended_told, first_fate, highest_more, open_fate, place_again, progress_more, progress_told, round_fate, waiting_alike}
 use Rattle.om_picture.proofs.HeldLemmas.{held_more, left_none, left_own}
 use Rattle.om_picture.proofs.LaneLemmas.{all_counted, lane_counted, lanes_alike}
@@ -35,16 +36,16 @@ start = record { interval = 0; safe = 0 }
 
 -- ---- whose event it is
 of_own : (p : ℕ) (row : EventRow) → process_of row.entry.event ≡ Some p → is_of p row ≡ true
-of_own p row is = ap (λ (o : Option ℕ). is_process p o) is ∙ eq-eqb p p refl
+of_own p row is = ap (λ (o : Option ℕ). option_map_or (λ (r : ℕ). r == p) o false) is ∙ eq-eqb p p refl
 
 of_other : (p q : ℕ) (row : EventRow) → process_of row.entry.event ≡ Some p → q ≢ p → is_of q row ≡ false
-of_other p q row is away = ap (λ (o : Option ℕ). is_process q o) is ∙ elim (eqb_tells p q) [
+of_other p q row is away = ap (λ (o : Option ℕ). option_map_or (λ (r : ℕ). r == q) o false) is ∙ elim (eqb_tells p q) [
   | inl same ↦ absurd (away (sym same.1))
   | inr other ↦ other.0
 ]
 
 of_none : (q : ℕ) (row : EventRow) → process_of row.entry.event ≡ None → is_of q row ≡ false
-of_none q row is = ap (λ (o : Option ℕ). is_process q o) is
+of_none q row is = ap (λ (o : Option ℕ). option_map_or (λ (r : ℕ). r == q) o false) is
 
 other_progress : (q : ℕ) (was : Progress) (row : EventRow) → is_of q row ≡ false → next_progress q was row ≡ was
 other_progress q was row other = ap (λ (b : Bool). if b then progress_after row.entry.event row.entry.answer was else was) other
@@ -73,12 +74,12 @@ own_marks : (on : Bool) (s : Shown) (row : EventRow) (later : List EventRow) (p 
     → b.progress ≡ next_progress p a.progress row → LaneShows on s row.fresh row.entry a b
     → amid_marks row later p b
     ≡ lane_marks (row ∷ later) p a
-    ++ (if on then fated_marks s row.fresh (fate_amid row later p b.progress.interval a.reached b.progress) row.entry else [])
+    ++ (if on then fated_if s row.fresh (fate_amid row later p b.progress.interval a.reached b.progress) row.entry else [])
 own_marks on s row later p a b is lane =
     ap (λ (n : ℕ). waiting_marks (λ i. fate_amid row later p i n b.progress) b.waiting) lane.reached
     ∙ lane.waits (λ i. fate_amid row later p i a.reached b.progress)
     ∙ ap (λ (w : Progress). waiting_marks (λ i. fate_amid row later p i a.reached w) a.waiting
-    ++ (if on then fated_marks s row.fresh (fate_amid row later p b.progress.interval a.reached b.progress) row.entry else [])) is
+    ++ (if on then fated_if s row.fresh (fate_amid row later p b.progress.interval a.reached b.progress) row.entry else [])) is
 
 -- ---- an event is drawn
 if_both : (count : EventMark → ℕ) (on : Bool) (x y : List EventMark)
@@ -199,22 +200,22 @@ amid_shown n p before row a b count is within lanes s =
       marks = λ (later : List EventRow) (c : EventMark → ℕ).
           let sure : List EventMark = sure_marks (has_loose (lane_of a p).progress) sh row.entry in
           let fate : Fate = fate_of p (interval_behind p (before ++ row ∷ [])) before (row ∷ later) in
-          let fated : List EventMark = fated_marks sh row.fresh fate row.entry in
+          let fated : List EventMark = fated_if sh row.fresh fate row.entry in
           let i_here : ℕ = (lane_of b p).progress.interval in
           let i_behind : ℕ = interval_behind p (before ++ row ∷ []) in
-          let amid : List EventMark = fated_marks sh row.fresh (fate_amid row later p i_here (lane_of a p).reached (lane_of b p).progress)
+          let amid : List EventMark = fated_if sh row.fresh (fate_amid row later p i_here (lane_of a p).reached (lane_of b p).progress)
           row.entry in
           let fates : amid ≡ fated =
-          ap (λ (w : Progress). fated_marks sh row.fresh (fate_amid row later p i_here (lane_of a p).reached w) row.entry) now_is
-          ∙ ap (λ (i : ℕ). fated_marks sh row.fresh (fate_behind p i (lane_of a p).reached (lane_of a p).progress (row ∷ later)) row.entry)
+          ap (λ (w : Progress). fated_if sh row.fresh (fate_amid row later p i_here (lane_of a p).reached w) row.entry) now_is
+          ∙ ap (λ (i : ℕ). fated_if sh row.fresh (fate_behind p i (lane_of a p).reached (lane_of a p).progress (row ∷ later)) row.entry)
           interval_here
-          ∙ ap (λ (r : ℕ). fated_marks sh row.fresh (fate_behind p i_behind r (lane_of a p).progress (row ∷ later)) row.entry) mine.reached
-          ∙ ap (λ (w : Progress). fated_marks sh row.fresh (fate_behind p i_behind (highest p 0 before) w (row ∷ later)) row.entry)
+          ∙ ap (λ (r : ℕ). fated_if sh row.fresh (fate_behind p i_behind r (lane_of a p).progress (row ∷ later)) row.entry) mine.reached
+          ∙ ap (λ (w : Progress). fated_if sh row.fresh (fate_behind p i_behind (highest p 0 before) w (row ∷ later)) row.entry)
           mine.progress in
           let events : marks_on n (process_of event) before row later ≡ sure ++ fated =
           event_here n p before row later is within
           ∙ ap (λ (x : Bool). sure_marks (has_loose (progress_behind p before)) (shown x event answer) row.entry
-          ++ fated_marks (shown x event answer) row.fresh fate row.entry) (sym mine.ended)
+          ++ fated_if (shown x event answer) row.fresh fate row.entry) (sym mine.ended)
           ∙ ap (λ (w : Progress). sure_marks (has_loose w) sh row.entry ++ fated) (sym mine.progress) in
           let new = all_counted c (amid_marks row later) b in
           let old = all_counted c (lane_marks (row ∷ later)) a in
@@ -325,9 +326,9 @@ lane_small p n below few =
 freed_told : (p : ℕ) (rows : List EventRow) (row : EventRow) (lane : LaneState) → lane.reached ≡ highest p 0 rows
     → held_in lane ≡ held_behind p rows ++ left_by p rows row → frees row p lane ≡ releases p rows row
 freed_told p rows row lane reached held =
-    ap (λ (n : ℕ). is_any_elsewhere row.entry.at.x (covered_by (next_place p n row) (held_in lane))) reached
-    ∙ ap (λ (n : ℕ). is_any_elsewhere row.entry.at.x (covered_by n (held_in lane))) (sym (highest_more p 0 rows row))
-    ∙ ap (λ (l : List Held). is_any_elsewhere row.entry.at.x (covered_by (highest p 0 (rows ++ row ∷ [])) l)) held
+    ap (λ (n : ℕ). list_any (is_elsewhere row.entry.at.x) (covered_by (next_place p n row) (held_in lane))) reached
+    ∙ ap (λ (n : ℕ). list_any (is_elsewhere row.entry.at.x) (covered_by n (held_in lane))) (sym (highest_more p 0 rows row))
+    ∙ ap (λ (l : List Held). list_any (is_elsewhere row.entry.at.x) (covered_by (highest p 0 (rows ++ row ∷ [])) l)) held
 
 freed_same : (x : EventMark → ℕ) (n : ℕ) (rows : List EventRow) (row : EventRow) (c : Sketch) → n ≤ MAX_PROCESSES
     → ((p : ℕ) → p < n → frees row p (lane_of c p) ≡ releases p rows row) → (k : ℕ) → k ≤ n

@@ -1,11 +1,12 @@
 -- What is released was made before, elsewhere.
 use Rattle.std.proofs.Common.{◌≡◌, ◌∙◌, ◌<◌, ◌≤◌, ◌==◌, ◌&&◌, ◌||◌, ◌⊎◌, ℕ, Bool, true, false, not, if◌then◌else◌, List, [], ◌∷◌, ◌++◌, refl, ap, sym, subst, inl, inr, append_assoc}
+use Rattle.std.specs.List.{list_any}
 use Rattle.std.specs.Prelude.{nat_le, nat_lt}
 use Rattle.std.proofs.lemmas.Bool.{eq-eqb, ltb-true}
 use Rattle.std.proofs.lemmas.Bool.Decides.{leb_tells}
 use Rattle.std.proofs.lemmas.List.{append-nil}
 use Rattle.om_picture.specs.Fates.{EventRow, has_ended, highest, interval_behind, is_of}
-use Rattle.om_picture.specs.Held.{Held, WereHeld, covered_by, held_behind, held_from, is_any_elsewhere, is_elsewhere, left_behind, left_by, may_wait, next_held, releases}
+use Rattle.om_picture.specs.Held.{Held, WereHeld, covered_by, held_behind, held_from, is_elsewhere, left_behind, left_by, may_wait, next_held, releases}
 use Rattle.om_sheet.specs.Shows.{is_finished, shown}
 use Rattle.om_picture.proofs.HeldLemmas.{covered_first, covered_none}
 
@@ -126,19 +127,19 @@ here_held p x place rows held left within found =
     }
 
 any_held : (p x place : ℕ) (rows : List EventRow) (held : List Held) → AllLeft p rows held
-    → is_any_elsewhere x (covered_by place held) ≡ true → WereHeld p rows x place
+    → list_any (is_elsewhere x) (covered_by place held) ≡ true → WereHeld p rows x place
 unfolding AllLeft
 any_held p x place rows [] left found = let e : false ≡ true = found in cc
 any_held p x place rows (h ∷ held) left found = elim (leb_tells h.interval place) [
   | inl le ↦
-      let first : (is_elsewhere x h || is_any_elsewhere x (covered_by place held)) ≡ true =
-      ap (λ (l : List Held). is_any_elsewhere x l) (sym (covered_first place h held le.1)) ∙ found in
-      elim (one_true (is_elsewhere x h) (is_any_elsewhere x (covered_by place held)) first) [
+      let first : (is_elsewhere x h || list_any (is_elsewhere x) (covered_by place held)) ≡ true =
+      ap (λ (l : List Held). list_any (is_elsewhere x) l) (sym (covered_first place h held le.1)) ∙ found in
+      elim (one_true (is_elsewhere x h) (list_any (is_elsewhere x) (covered_by place held)) first) [
         | inl this ↦ here_held p x place rows h left.0 le.1 this
         | inr rest ↦ any_held p x place rows held left.1 rest
       ]
   | inr beyond ↦
-      let e : false ≡ true = ap (λ (l : List Held). is_any_elsewhere x l) (sym (covered_none place h held beyond.1)) ∙ found in
+      let e : false ≡ true = ap (λ (l : List Held). list_any (is_elsewhere x) l) (sym (covered_none place h held beyond.1)) ∙ found in
       cc
 ]
 

@@ -1,30 +1,31 @@
 -- What the marks of a picture come to, as its lanes change.
-use Rattle.std.proofs.Common.{◌≡◌, ◌≢◌, ◌∙◌, ◌+◌, ◌-◌, ◌<◌, ◌≤◌, ◌==◌, ◌||◌, ℕ, zero, suc, Bool, true, false, if◌then◌else◌, max, List, [], ◌∷◌, ◌++◌, Option, Some, None, Result, Ok, Err, OnOk, MatchOption, is_ok, length, map, drop, get_or, set, refl, ap, sym, subst, inl, inr, arith, get_or-set_same, get_or-set_other, length-set, append_assoc}
+use Rattle.std.proofs.Common.{◌≡◌, ◌≢◌, ◌∙◌, ◌+◌, ◌<◌, ◌≤◌, ◌==◌, ◌||◌, ℕ, zero, suc, Bool, true, false, if◌then◌else◌, max, List, [], ◌∷◌, ◌++◌, Option, Some, None, Result, Ok, Err, OnOk, MatchOption, is_ok, length, map, drop, get_or, set, refl, ap, sym, subst, inl, inr, arith, get_or-set_same, get_or-set_other, length-set, append_assoc}
 use Rattle.std.specs.Prelude.{nat_le, nat_lt, slice_index}
-use Rattle.std.specs.List.{flat_map, sum_by}
+use Rattle.std.specs.List.{flat_map, list_any, sum_by}
 use Rattle.std.specs.declared.alloc.AllocError.{AllocError}
 use Rattle.std.proofs.Math.Dec.{eqb-suc-zero}
 use Rattle.std.proofs.Math.Bool.{or-false, or_assoc}
 use Rattle.std.proofs.lemmas.Bool.{eq-eqb, ltb-false, ltb-true}
 use Rattle.std.proofs.lemmas.Bool.Decides.{eqb_tells}
-use Rattle.std.proofs.lemmas.List.{append-nil, drop-append-le, drop_all, drop_more, flat_map_more, get_or_past, get_or-map, length-drop, length-map, map-set, set-get_or}
+use Rattle.std.proofs.lemmas.List.{append-nil, drop-append-le, drop_all, drop_more, flat_map_more, get_or_past, get_or-map, length-map, map-set, set-get_or}
 use Rattle.std.proofs.lemmas.List.Sums.{sum_by-append}
 use Rattle.std.proofs.lemmas.Result.{on_ok_weaker}
-use Rattle.om_picture.specs.Drawing.{Edge, LaneState, Sketch, all_marks, held_in, held_of, lane_in, lane_of, lanes_marks, late_marks, mark_marks, new_lane, waiting_marks}
+use Rattle.om_picture.specs.Drawing.{Edge, LaneState, Sketch, all_marks, held_in, held_of, lane_in, lane_of, lanes_marks, mark_marks, new_lane, waiting_marks}
 use Rattle.om_picture.specs.Fates.{EventAt, EventRow, Fate, Progress}
-use Rattle.om_picture.specs.Held.{Held, covered_by, is_any_elsewhere, is_elsewhere, left_behind}
-use Rattle.om_picture.specs.Marks.{EventMark, Kind, Made, Stands, kind_drawn, mark_of, output_marks, released_at, shape_marks, title_entry}
+use Rattle.om_picture.specs.Held.{Held, covered_by, is_elsewhere, left_behind}
+use Rattle.om_picture.specs.Marks.{EventMark, fated_marks, form_of, mark_of, output_marks, released_at, shape_marks, title_entry}
 use Rattle.om_sheet.specs.Shows.{shown}
 use Rattle.om_picture.specs.declared.history.History.{History}
 use Rattle.om_picture.specs.declared.history.Mark.{Mark}
 use Rattle.om_picture.specs.declared.history.Next.{Next}
 use Rattle.om_sheet.specs.declared.sheet.Glyph.{Glyph}
+use Rattle.om_sheet.specs.declared.sheet.Glyph.TheVariants as glyphs
 use Rattle.om_sheet.specs.declared.sheet.Shape.{Shape}
 use Rattle.om_sheet.specs.declared.sheet.Spot.{Spot}
 use Rattle.om_sheet.specs.declared.sheet.Title.{Title}
 use Rattle.om_sheet.specs.declared.shown.Shown.{Shown}
 use Rattle.om_sheet.specs.declared.shown.Shown.TheVariants as shows
-use Rattle.om_picture.specs.steps.Adding.{IsMore, KeepsMarks, KeepsWith, Learning, Learns, LearnsAll, LearnsAt, LearnsBelow, Raises, Settles, SettlesAll, SettlesBelow, SettlesLane, SettlesSome, Shows, ShowsAt, Stays, Takes, TakesCovered, TakesFirst, TellsPlace, Turns, Waits, amid_marks, fate_amid, fate_now, freed_below, frees, kept, kind_late, lane_number, made_by, now_marks}
+use Rattle.om_picture.specs.steps.Adding.{IsMore, KeepsMarks, KeepsWith, Learning, Learns, LearnsAll, LearnsAt, LearnsBelow, Raises, Settles, SettlesAll, SettlesBelow, SettlesLane, SettlesSome, Shows, ShowsAt, Stays, Takes, TakesCovered, TakesFirst, TellsPlace, Turns, Waits, amid_marks, fate_amid, fate_now, form_late, freed_below, frees, kept, lane_number, made_by, now_marks}
 use Rattle.om_picture.proofs.FateLemmas.{amid_again, kept_amid, waiting_alike}
 use Rattle.om_picture.proofs.HeldLemmas.{covered_first, covered_none, uncovered_all, uncovered_first}
 
@@ -203,7 +204,7 @@ learn_first row a b p place is t =
         reached = ap (λ (l : LaneState). l.reached) t.turn ∙ ap (λ (n : ℕ). max (lane_of a p).reached n) is;
       };
       left = ap (λ (l : List Held). left_behind (lane_of b p).reached l) (sym same);
-      freed = ap (λ (l : List Held). is_any_elsewhere row.entry.at.x (covered_by (lane_of b p).reached l)) (sym same);
+      freed = ap (λ (l : List Held). list_any (is_elsewhere row.entry.at.x) (covered_by (lane_of b p).reached l)) (sym same);
       others = turned_other (Raises place) a b p t;
     }
 
@@ -230,13 +231,13 @@ left_next place mark all was rest within is left =
 
 freed_next : (x place : ℕ) (mark : Mark) (found more : Bool) (all was rest : List Held) → mark.interval ≤ place
     → was ≡ held_of mark ∷ rest → more ≡ is_elsewhere x (held_of mark)
-    → is_any_elsewhere x (covered_by place all) ≡ (found || is_any_elsewhere x (covered_by place was))
-    → is_any_elsewhere x (covered_by place all) ≡ ((found || more) || is_any_elsewhere x (covered_by place rest))
+    → list_any (is_elsewhere x) (covered_by place all) ≡ (found || list_any (is_elsewhere x) (covered_by place was))
+    → list_any (is_elsewhere x) (covered_by place all) ≡ ((found || more) || list_any (is_elsewhere x) (covered_by place rest))
 freed_next x place mark found more all was rest within is here freed =
-    freed ∙ ap (λ (l : List Held). found || is_any_elsewhere x (covered_by place l)) is
-    ∙ ap (λ (l : List Held). found || is_any_elsewhere x l) (covered_first place (held_of mark) rest within)
-    ∙ sym (or_assoc found (is_elsewhere x (held_of mark)) (is_any_elsewhere x (covered_by place rest)))
-    ∙ ap (λ (b : Bool). (found || b) || is_any_elsewhere x (covered_by place rest)) (sym here)
+    freed ∙ ap (λ (l : List Held). found || list_any (is_elsewhere x) (covered_by place l)) is
+    ∙ ap (λ (l : List Held). found || list_any (is_elsewhere x) l) (covered_first place (held_of mark) rest within)
+    ∙ sym (or_assoc found (is_elsewhere x (held_of mark)) (list_any (is_elsewhere x) (covered_by place rest)))
+    ∙ ap (λ (b : Bool). (found || b) || list_any (is_elsewhere x) (covered_by place rest)) (sym here)
 
 pub learn_kept : (row : EventRow) (found more : Bool) (a b c d : Sketch) (p : ℕ) (mark : Mark) → Learning row found a b p
     → Turns (TakesCovered mark) b c p → Settles c d (mark_marks mark kept) → more ≡ is_elsewhere row.entry.at.x (held_of mark)
@@ -258,8 +259,8 @@ learn_kept row found more a b c d p mark before t s is =
           (left_next (lane_of b p).reached mark (held_in (lane_of a p)) (held_in (lane_of b p)) (held_in (lane_of d p)) t.turn.covered was
           before.left);
       freed =
-          subst (λ (n : ℕ). is_any_elsewhere row.entry.at.x (covered_by n (held_in (lane_of a p)))
-          ≡ ((found || more) || is_any_elsewhere row.entry.at.x (covered_by n (held_in (lane_of d p))))) (sym reached)
+          subst (λ (n : ℕ). list_any (is_elsewhere row.entry.at.x) (covered_by n (held_in (lane_of a p)))
+          ≡ ((found || more) || list_any (is_elsewhere row.entry.at.x) (covered_by n (held_in (lane_of d p))))) (sym reached)
           (freed_next row.entry.at.x (lane_of b p).reached mark found more (held_in (lane_of a p)) (held_in (lane_of b p))
           (held_in (lane_of d p)) t.turn.covered was is before.freed);
       others = λ (q : ℕ) (away : q ≢ p).
@@ -298,8 +299,8 @@ learn_none row found a b c p before last =
 pub learn_freed : (row : EventRow) (found : Bool) (a b c : Sketch) (p : ℕ) → Learning row found a b p
     → (c ≡ b) × (covered_by (lane_of b p).reached (held_in (lane_of b p)) ≡ []) → found ≡ frees row p (lane_of a p)
 learn_freed row found a b c p before last =
-    sym (ap (λ (n : ℕ). is_any_elsewhere row.entry.at.x (covered_by n (held_in (lane_of a p)))) (sym before.here.reached)
-    ∙ before.freed ∙ ap (λ (l : List Held). found || is_any_elsewhere row.entry.at.x l) last.1 ∙ or-false found)
+    sym (ap (λ (n : ℕ). list_any (is_elsewhere row.entry.at.x) (covered_by n (held_in (lane_of a p)))) (sym before.here.reached)
+    ∙ before.freed ∙ ap (λ (l : List Held). found || list_any (is_elsewhere row.entry.at.x) l) last.1 ∙ or-false found)
 
 pub learns_start : (row : EventRow) (a : Sketch) → LearnsBelow row a a 0
 learns_start row a = record {
@@ -610,16 +611,16 @@ shape_added (Err e) on edge shapes more lanes shape one is added = tt
 
 pub form_settles : (r : Result (Unit {0}) AllocError) (a b : Sketch) (shape : Shape) (glyph : Glyph) (cut : Bool) (title : Title) (at : Spot)
     → shape.glyph ≡ glyph → shape.cut ≡ cut → shape.title ≡ title → shape.at ≡ at → OnOk r (Settles a b (shape_marks shape))
-    → OnOk r (Settles a b (mark_of (kind_drawn glyph) cut (title_entry title at)))
+    → OnOk r (Settles a b (mark_of (form_of glyph) cut (title_entry title at)))
 form_settles r a b shape glyph cut title at form_is cut_is title_is at_is settled =
-    subst (λ (f : Glyph). OnOk r (Settles a b (mark_of (kind_drawn f) cut (title_entry title at)))) form_is
-    (subst (λ (x : Bool). OnOk r (Settles a b (mark_of (kind_drawn shape.glyph) x (title_entry title at)))) cut_is
-    (subst (λ (t : Title). OnOk r (Settles a b (mark_of (kind_drawn shape.glyph) shape.cut (title_entry t at)))) title_is
-    (subst (λ (x : Spot). OnOk r (Settles a b (mark_of (kind_drawn shape.glyph) shape.cut (title_entry shape.title x)))) at_is settled)))
+    subst (λ (f : Glyph). OnOk r (Settles a b (mark_of (form_of f) cut (title_entry title at)))) form_is
+    (subst (λ (x : Bool). OnOk r (Settles a b (mark_of (form_of shape.glyph) x (title_entry title at)))) cut_is
+    (subst (λ (t : Title). OnOk r (Settles a b (mark_of (form_of shape.glyph) shape.cut (title_entry t at)))) title_is
+    (subst (λ (x : Spot). OnOk r (Settles a b (mark_of (form_of shape.glyph) shape.cut (title_entry shape.title x)))) at_is settled)))
 
 -- the marks of a mark that waited: of its outputs, and its own
 late_both : (s : Shown) (fresh : ℕ) (fate : Fate) (entry : EventAt)
-    → output_marks (made_by s) fresh fate entry ++ mark_of (Some (kind_late s fate)) fate.cut entry ≡ late_marks s fresh fate entry
+    → output_marks (made_by s) fresh fate entry ++ mark_of (form_late s fate) fate.cut entry ≡ fated_marks s fresh fate entry
 late_both shows.Nothing fresh fate entry = refl
 late_both (shows.Run sent made ends) fresh fate entry = refl
 late_both (shows.Resend sent) fresh fate entry = refl
@@ -633,22 +634,22 @@ late_both shows.Join fresh fate entry = refl
 late_both (shows.Back interval inc) fresh fate entry = refl
 late_both shows.GoesOn fresh fate entry = refl
 
-pub settles_mark : (r : Result (Unit {0}) AllocError) (a b c : Sketch) (mark : Mark) (fate : Fate) (kind : Option Kind)
-    → (mark.at.x == 0) ≡ false → kind ≡ Some (kind_late mark.shown fate)
+pub settles_mark : (r : Result (Unit {0}) AllocError) (a b c : Sketch) (mark : Mark) (fate : Fate) (form : Glyph)
+    → (mark.at.x == 0) ≡ false → form ≡ form_late mark.shown fate
     → Settles a b (output_marks (made_by mark.shown) mark.fresh fate (title_entry mark.title mark.at))
-    → OnOk r (Settles b c (mark_of kind fate.cut (title_entry mark.title mark.at))) → OnOk r (Settles a c (mark_marks mark fate))
-settles_mark r a b c mark fate kind there is p q =
+    → OnOk r (Settles b c (mark_of form fate.cut (title_entry mark.title mark.at))) → OnOk r (Settles a c (mark_marks mark fate))
+settles_mark r a b c mark fate form there is p q =
     let entry : EventAt = title_entry mark.title mark.at in
     let outputs : List EventMark = output_marks (made_by mark.shown) mark.fresh fate entry in
-    let same : outputs ++ mark_of kind fate.cut entry ≡ mark_marks mark fate =
-    ap (λ (k : Option Kind). outputs ++ mark_of k fate.cut entry) is ∙ late_both mark.shown mark.fresh fate entry
-    ∙ sym (ap (λ (b : Bool). if b then [] else late_marks mark.shown mark.fresh fate entry) there) in
-    subst (λ (l : List EventMark). OnOk r (Settles a c l)) same (settles_then_if r a b c outputs (mark_of kind fate.cut entry) p q)
+    let same : outputs ++ mark_of form fate.cut entry ≡ mark_marks mark fate =
+    ap (λ (g : Glyph). outputs ++ mark_of g fate.cut entry) is ∙ late_both mark.shown mark.fresh fate entry
+    ∙ sym (ap (λ (b : Bool). if b then [] else fated_marks mark.shown mark.fresh fate entry) there) in
+    subst (λ (l : List EventMark). OnOk r (Settles a c l)) same (settles_then_if r a b c outputs (mark_of form fate.cut entry) p q)
 
 pub settles_past : (s : Sketch) (mark : Mark) (fate : Fate) → (mark.at.x == 0) ≡ true → Settles s s (mark_marks mark fate)
 settles_past s mark fate past =
     let none : mark_marks mark fate ≡ [] =
-    ap (λ (b : Bool). if b then [] else late_marks mark.shown mark.fresh fate (title_entry mark.title mark.at)) past in
+    ap (λ (b : Bool). if b then [] else fated_marks mark.shown mark.fresh fate (title_entry mark.title mark.at)) past in
     subst (λ (l : List EventMark). Settles s s l) (sym none) (settles_none s)
 
 pub not_zero : (x : ℕ) → (x ≡ 0 → ⊥) → (x == 0) ≡ false
@@ -699,10 +700,10 @@ still_there hs ks p same within = let a = length-map hs lane_in in let b = lengt
 -- ---- the outputs of a mark
 outputs_made : (made fresh : ℕ) (fate : Fate) (entry : EventAt) → true ≡ nat_lt 0 made
     → output_marks made fresh fate entry
-    ≡ mark_of (Some (Stands (fresh == 0))) fate.cut entry ++ (if fresh == 0 then [] else mark_of (Some (Made fate.covered)) fate.cut entry)
+    ≡ mark_of (glyphs.Stem (fresh == 0)) fate.cut entry ++ (if fresh == 0 then [] else mark_of (glyphs.Head fate.covered) fate.cut entry)
 outputs_made made fresh fate entry some =
-    ap (λ (x : Bool). if x then [] else mark_of (Some (Stands (fresh == 0))) fate.cut entry
-    ++ (if fresh == 0 then [] else mark_of (Some (Made fate.covered)) fate.cut entry))
+    ap (λ (x : Bool). if x then [] else mark_of (glyphs.Stem (fresh == 0)) fate.cut entry
+    ++ (if fresh == 0 then [] else mark_of (glyphs.Head fate.covered) fate.cut entry))
     (not_zero made (λ (zero : made ≡ 0). let there = ltb-true 0 made (sym some) in omega arith))
 
 pub outputs_none : (s : Sketch) (made fresh : ℕ) (fate : Fate) (entry : EventAt) → false ≡ nat_lt 0 made
@@ -711,30 +712,30 @@ outputs_none s made fresh fate entry none =
     let few : made ≤ 0 = ltb-false 0 made (sym none) in
     let zero : made ≡ 0 = omega arith in
     let same : output_marks made fresh fate entry ≡ [] =
-    ap (λ (x : Bool). if x then [] else mark_of (Some (Stands (fresh == 0))) fate.cut entry
-    ++ (if fresh == 0 then [] else mark_of (Some (Made fate.covered)) fate.cut entry)) (eq-eqb made 0 zero) in
+    ap (λ (x : Bool). if x then [] else mark_of (glyphs.Stem (fresh == 0)) fate.cut entry
+    ++ (if fresh == 0 then [] else mark_of (glyphs.Head fate.covered) fate.cut entry)) (eq-eqb made 0 zero) in
     subst (λ (l : List EventMark). Settles s s l) (sym same) (settles_none s)
 
 pub outputs_again : (a b : Sketch) (made fresh : ℕ) (fate : Fate) (entry : EventAt) (again : Bool) → true ≡ nat_lt 0 made
-    → (fresh == 0) ≡ again → (fresh == 0) ≡ true → Settles a b (mark_of (Some (Stands again)) fate.cut entry)
+    → (fresh == 0) ≡ again → (fresh == 0) ≡ true → Settles a b (mark_of (glyphs.Stem again) fate.cut entry)
     → Settles a b (output_marks made fresh fate entry)
 outputs_again a b made fresh fate entry again some is none settled =
-    let same : output_marks made fresh fate entry ≡ mark_of (Some (Stands again)) fate.cut entry =
+    let same : output_marks made fresh fate entry ≡ mark_of (glyphs.Stem again) fate.cut entry =
     outputs_made made fresh fate entry some
-    ∙ ap (λ (x : Bool). mark_of (Some (Stands (fresh == 0))) fate.cut entry
-    ++ (if x then [] else mark_of (Some (Made fate.covered)) fate.cut entry)) none
-    ∙ ap (λ (x : Bool). mark_of (Some (Stands x)) fate.cut entry) is in
+    ∙ ap (λ (x : Bool). mark_of (glyphs.Stem (fresh == 0)) fate.cut entry
+    ++ (if x then [] else mark_of (glyphs.Head fate.covered) fate.cut entry)) none
+    ∙ ap (λ (x : Bool). mark_of (glyphs.Stem x) fate.cut entry) is in
     subst (λ (l : List EventMark). Settles a b l) (sym same) settled
 
 pub outputs_new : (r : Result (Unit {0}) AllocError) (a b c : Sketch) (made fresh : ℕ) (fate : Fate) (entry : EventAt) (again : Bool)
-    → true ≡ nat_lt 0 made → (fresh == 0) ≡ again → (fresh == 0) ≡ false → Settles a b (mark_of (Some (Stands again)) fate.cut entry)
-    → OnOk r (Settles b c (mark_of (Some (Made fate.covered)) fate.cut entry))
+    → true ≡ nat_lt 0 made → (fresh == 0) ≡ again → (fresh == 0) ≡ false → Settles a b (mark_of (glyphs.Stem again) fate.cut entry)
+    → OnOk r (Settles b c (mark_of (glyphs.Head fate.covered) fate.cut entry))
     → OnOk r (Settles a c (output_marks made fresh fate entry))
 outputs_new r a b c made fresh fate entry again some is news p q =
-    let head : List EventMark = mark_of (Some (Made fate.covered)) fate.cut entry in
-    let same : output_marks made fresh fate entry ≡ mark_of (Some (Stands again)) fate.cut entry ++ head =
+    let head : List EventMark = mark_of (glyphs.Head fate.covered) fate.cut entry in
+    let same : output_marks made fresh fate entry ≡ mark_of (glyphs.Stem again) fate.cut entry ++ head =
     outputs_made made fresh fate entry some
-    ∙ ap (λ (x : Bool). mark_of (Some (Stands (fresh == 0))) fate.cut entry ++ (if x then [] else head)) news
-    ∙ ap (λ (x : Bool). mark_of (Some (Stands x)) fate.cut entry ++ head) is in
+    ∙ ap (λ (x : Bool). mark_of (glyphs.Stem (fresh == 0)) fate.cut entry ++ (if x then [] else head)) news
+    ∙ ap (λ (x : Bool). mark_of (glyphs.Stem x) fate.cut entry ++ head) is in
     subst (λ (l : List EventMark). OnOk r (Settles a c l)) (sym same)
-    (settles_then_if r a b c (mark_of (Some (Stands again)) fate.cut entry) head p q)
+    (settles_then_if r a b c (mark_of (glyphs.Stem again) fate.cut entry) head p q)

@@ -1,20 +1,21 @@
 -- What an event shows on the lane of its process.
-use Rattle.std.proofs.Common.{◌≡◌, ◌∙◌, ◌<◌, ◌≤◌, ◌==◌, ◌||◌, ℕ, Bool, true, false, not, if◌then◌else◌, is_some, List, [], ◌∷◌, ◌++◌, Option, Some, None, Result, OnOk, length, map, set, refl, ap, sym, subst, arith}
+use Rattle.std.proofs.Common.{◌≡◌, ◌∙◌, ◌<◌, ◌==◌, ◌||◌, ℕ, Bool, true, false, not, if◌then◌else◌, is_some, List, [], ◌∷◌, ◌++◌, Option, Some, None, Result, OnOk, length, map, set, refl, ap, sym, subst}
 use Rattle.std.specs.declared.alloc.AllocError.{AllocError}
 use Rattle.std.proofs.lemmas.List.{append-nil, map-append, set-get_or, set-set}
 use Rattle.std.proofs.lemmas.Result.{on_ok_weaker}
 use Rattle.om_process.specs.declared.status.Status.{Status}
-use Rattle.om_picture.specs.Drawing.{LaneState, Sketch, held_in, held_of, lane_of, late_marks, mark_marks, new_lane, waiting_marks}
+use Rattle.om_picture.specs.Drawing.{LaneState, Sketch, held_in, held_of, lane_of, mark_marks, new_lane, waiting_marks}
 use Rattle.om_picture.specs.Fates.{EventAt, Fate, Progress, has_loose, saved, step_entry}
 use Rattle.om_picture.specs.Held.{Held, may_wait}
-use Rattle.om_picture.specs.Marks.{CameBack, EventMark, Joined, Logged, Released, fated_marks, log_marks, mark_of, released_at, sure_marks, title_entry}
+use Rattle.om_picture.specs.Marks.{EventMark, fated_marks, log_marks, mark_of, released_at, sure_marks, title_entry}
 use Rattle.om_picture.specs.declared.history.Mark.{Mark}
+use Rattle.om_sheet.specs.declared.sheet.Glyph.TheVariants as glyphs
 use Rattle.om_sheet.specs.declared.sheet.Spot.{Spot}
 use Rattle.om_sheet.specs.declared.sheet.Title.{Title}
 use Rattle.om_sheet.specs.declared.shown.Shown.{Shown}
 use Rattle.om_sheet.specs.declared.shown.Shown.TheVariants as shows
 use Rattle.om_sheet.specs.declared.step.PlayedEvent.{PlayedEvent}
-use Rattle.om_picture.specs.steps.Adding.{Ends, GoesBack, IsMore, LaneShows, Logs, Receives, Settles, Shows, Stores, Turns, Waits, ended_shown, progress_shown}
+use Rattle.om_picture.specs.steps.Adding.{Ends, GoesBack, IsMore, LaneShows, Logs, Receives, Settles, Shows, Stores, Turns, Waits, ended_shown, fated_if, progress_shown}
 use Rattle.om_picture.proofs.FateLemmas.{waiting_more}
 use Rattle.om_picture.proofs.LaneLemmas.{settled_lane, settles_none, settles_then}
 
@@ -32,22 +33,22 @@ none_more on l = sym (append-nil l) ∙ ap (λ (m : List EventMark). l ++ m) (no
 -- ---- lanes
 -- a mark that waits
 late_waits : (on : Bool) (x : ℕ) (s : Shown) (fresh : ℕ) (entry : EventAt) (a b : LaneState) → (x == 0) ≡ not on
-    → ((fate : Fate) → late_marks s fresh fate entry ≡ fated_marks s fresh fate entry) → Waits x s fresh entry a b
+    → ((fate : Fate) → fated_marks s fresh fate entry ≡ fated_if s fresh fate entry) → Waits x s fresh entry a b
     → (fate : ℕ → Fate) → waiting_marks fate b.waiting
-    ≡ waiting_marks fate a.waiting ++ (if on then fated_marks s fresh (fate b.progress.interval) entry else [])
+    ≡ waiting_marks fate a.waiting ++ (if on then fated_if s fresh (fate b.progress.interval) entry else [])
 late_waits on x s fresh entry a b there late waits fate =
     let mark : Mark = waits.0 in
     let more : IsMore mark a b = waits.1 in
     let its : Fate = fate b.progress.interval in
     let interval : mark.interval ≡ b.progress.interval = waits.3 ∙ sym (ap (λ (l : LaneState). l.progress.interval) more) in
-    let one : mark_marks mark (fate mark.interval) ≡ (if on then fated_marks s fresh its entry else []) =
-    ap (λ (n : ℕ). if n == 0 then [] else late_marks mark.shown mark.fresh (fate mark.interval) (title_entry mark.title mark.at)) waits.2
-    ∙ ap (λ (n : ℕ). if x == 0 then [] else late_marks mark.shown mark.fresh (fate n) (title_entry mark.title mark.at)) interval
-    ∙ ap (λ (t : Shown). if x == 0 then [] else late_marks t mark.fresh its (title_entry mark.title mark.at)) waits.4
-    ∙ ap (λ (n : ℕ). if x == 0 then [] else late_marks s n its (title_entry mark.title mark.at)) waits.5
-    ∙ ap (λ (e : EventAt). if x == 0 then [] else late_marks s fresh its e) waits.6
+    let one : mark_marks mark (fate mark.interval) ≡ (if on then fated_if s fresh its entry else []) =
+    ap (λ (n : ℕ). if n == 0 then [] else fated_marks mark.shown mark.fresh (fate mark.interval) (title_entry mark.title mark.at)) waits.2
+    ∙ ap (λ (n : ℕ). if x == 0 then [] else fated_marks mark.shown mark.fresh (fate n) (title_entry mark.title mark.at)) interval
+    ∙ ap (λ (t : Shown). if x == 0 then [] else fated_marks t mark.fresh its (title_entry mark.title mark.at)) waits.4
+    ∙ ap (λ (n : ℕ). if x == 0 then [] else fated_marks s n its (title_entry mark.title mark.at)) waits.5
+    ∙ ap (λ (e : EventAt). if x == 0 then [] else fated_marks s fresh its e) waits.6
     ∙ ap (λ (l : List EventMark). if x == 0 then [] else l) (late its)
-    ∙ placed on x (fated_marks s fresh its entry) there in
+    ∙ placed on x (fated_if s fresh its entry) there in
     ap (λ (l : List Mark). waiting_marks fate l) (ap (λ (l : LaneState). l.waiting) more)
     ∙ waiting_more fate a.waiting mark
     ∙ ap (λ (l : List EventMark). waiting_marks fate a.waiting ++ l) one
@@ -71,7 +72,7 @@ late_held x s fresh entry a b c some waiting waits =
     ∙ ap (λ (w : Bool). held_in a ++ (if w then one else [])) (sym some)
 
 late_lane : (on : Bool) (x : ℕ) (s : Shown) (fresh : ℕ) (entry : EventAt) (a b c : LaneState) → (x == 0) ≡ not on
-    → ((fate : Fate) → late_marks s fresh fate entry ≡ fated_marks s fresh fate entry) → may_wait s ≡ true
+    → ((fate : Fate) → fated_marks s fresh fate entry ≡ fated_if s fresh fate entry) → may_wait s ≡ true
     → b.progress ≡ progress_shown a.progress s → b.ended ≡ ended_shown a.ended s
     → b.reached ≡ a.reached → b.waiting ≡ a.waiting → Waits x s fresh entry b c → LaneShows on s fresh entry a c
 late_lane on x s fresh entry a b c there late some progress ended reached waiting waits = record {
@@ -81,13 +82,13 @@ late_lane on x s fresh entry a b c there late some progress ended reached waitin
   held = late_held x s fresh entry a b c some waiting waits;
   waits = λ (fate : ℕ → Fate).
       late_waits on x s fresh entry b c there late waits fate
-      ∙ ap (λ (l : List Mark). waiting_marks fate l ++ (if on then fated_marks s fresh (fate c.progress.interval) entry else []))
+      ∙ ap (λ (l : List Mark). waiting_marks fate l ++ (if on then fated_if s fresh (fate c.progress.interval) entry else []))
       waiting;
 }
 
 -- none that waits
 still_lane : (on : Bool) (s : Shown) (fresh : ℕ) (entry : EventAt) (a b : LaneState)
-    → ((fate : Fate) → [] ≡ fated_marks s fresh fate entry) → may_wait s ≡ false
+    → ((fate : Fate) → [] ≡ fated_if s fresh fate entry) → may_wait s ≡ false
     → b.progress ≡ progress_shown a.progress s → b.ended ≡ ended_shown a.ended s → b.reached ≡ a.reached → b.waiting ≡ a.waiting
     → LaneShows on s fresh entry a b
 still_lane on s fresh entry a b none not_held progress ended reached waiting = record {
@@ -195,7 +196,7 @@ receipt_shown r a b c p x frame interval fresh entry there t waits =
 
 -- an event whose mark is drawn at once
 pub sure_shown : (r : Result (Unit {0}) AllocError) (s : Shown) (fresh : ℕ) (entry : EventAt) (more : List EventMark) (a c : Sketch) (p : ℕ)
-    → p < length a.lanes → ((loose : Bool) → more ≡ sure_marks loose s entry) → ((fate : Fate) → [] ≡ fated_marks s fresh fate entry)
+    → p < length a.lanes → ((loose : Bool) → more ≡ sure_marks loose s entry) → ((fate : Fate) → [] ≡ fated_if s fresh fate entry)
     → ((was : Progress) → was ≡ progress_shown was s) → ((was : Bool) → was ≡ ended_shown was s) → may_wait s ≡ false
     → OnOk r (Settles a c (if a.on then more else [])) → OnOk r (Shows a c p s fresh entry)
 sure_shown r s fresh entry more a c p within is none progress ended not_held settles =
@@ -207,14 +208,14 @@ sure_shown r s fresh entry more a c p within is none progress ended not_held set
 
 -- receipts that are stored
 pub logged_some : (r : Result (Unit {0}) AllocError) (many : Option ℕ) (a b c : Sketch) (p : ℕ) (entry : EventAt) → Turns (Stores many) a b p
-    → true ≡ has_loose (lane_of a p).progress → OnOk r (Settles b c (if b.on then mark_of (Some Logged) false entry else []))
+    → true ≡ has_loose (lane_of a p).progress → OnOk r (Settles b c (if b.on then mark_of (glyphs.Flush 0) false entry else []))
     → OnOk r (Logs many entry a c p)
 logged_some r many a b c p entry t some settles =
-    let same : (if b.on then mark_of (Some Logged) false entry else [])
+    let same : (if b.on then mark_of (glyphs.Flush 0) false entry else [])
     ≡ (if a.on then log_marks (has_loose (lane_of a p).progress) entry else []) =
-    ap (λ (on : Bool). if on then mark_of (Some Logged) false entry else []) t.on
+    ap (λ (on : Bool). if on then mark_of (glyphs.Flush 0) false entry else []) t.on
     ∙ ap (λ (loose : Bool). if a.on then log_marks loose entry else []) some in
-    on_ok_weaker r (λ (s : Settles b c (if b.on then mark_of (Some Logged) false entry else [])). record {
+    on_ok_weaker r (λ (s : Settles b c (if b.on then mark_of (glyphs.Flush 0) false entry else [])). record {
       stored = b;
       turns = t;
       settles = subst (λ (l : List EventMark). Settles b c l) same s;
@@ -228,7 +229,7 @@ logged_none many a b p entry t none =
     record { stored = b; turns = t; settles = subst (λ (l : List EventMark). Settles b b l) same (settles_none b) }
 
 log_lane : (s : Shown) (many : Option ℕ) (fresh : ℕ) (entry : EventAt) (a b : Sketch) (p : ℕ) → Turns (Stores many) a b p
-    → ((fate : Fate) → [] ≡ fated_marks s fresh fate entry) → ((was : Progress) → saved many was ≡ progress_shown was s)
+    → ((fate : Fate) → [] ≡ fated_if s fresh fate entry) → ((was : Progress) → saved many was ≡ progress_shown was s)
     → ((was : Bool) → was ≡ ended_shown was s) → may_wait s ≡ false
     → LaneShows a.on s fresh entry (lane_of a p) (lane_of b p)
 log_lane s many fresh entry a b p t none progress ended not_held =
@@ -240,7 +241,7 @@ log_lane s many fresh entry a b p t none progress ended not_held =
 
 -- an event that stores some, or all
 log_shown : (r : Result (Unit {0}) AllocError) (s : Shown) (many : Option ℕ) (a c : Sketch) (p fresh : ℕ) (entry : EventAt)
-    → ((loose : Bool) → log_marks loose entry ≡ sure_marks loose s entry) → ((fate : Fate) → [] ≡ fated_marks s fresh fate entry)
+    → ((loose : Bool) → log_marks loose entry ≡ sure_marks loose s entry) → ((fate : Fate) → [] ≡ fated_if s fresh fate entry)
     → ((was : Progress) → saved many was ≡ progress_shown was s) → ((was : Bool) → was ≡ ended_shown was s) → may_wait s ≡ false
     → OnOk r (Logs many entry a c p) → OnOk r (Shows a c p s fresh entry)
 log_shown r s many a c p fresh entry sure none progress ended not_held logs =
@@ -265,10 +266,10 @@ both_if true x y = refl
 both_if false x y = refl
 
 pub join_shown : (r : Result (Unit {0}) AllocError) (a b c : Sketch) (p fresh : ℕ) (entry : EventAt) → Logs None entry a b p
-    → OnOk r (Settles b c (if b.on then mark_of (Some Joined) false entry else [])) → OnOk r (Shows a c p shows.Join fresh entry)
+    → OnOk r (Settles b c (if b.on then mark_of glyphs.Join false entry else [])) → OnOk r (Shows a c p shows.Join fresh entry)
 join_shown r a b c p fresh entry g settles =
     let logs : List EventMark = log_marks (has_loose (lane_of a p).progress) entry in
-    let joins : List EventMark = mark_of (Some Joined) false entry in
+    let joins : List EventMark = mark_of glyphs.Join false entry in
     let on : b.on ≡ a.on = g.settles.on ∙ g.turns.on in
     on_ok_weaker r (λ (m : Settles b c (if b.on then joins else [])).
     shows_of shows.Join fresh entry (Stores None) a g.stored c p ((if a.on then logs else []) ++ (if b.on then joins else [])) g.turns
@@ -277,13 +278,13 @@ join_shown r a b c p fresh entry g settles =
     (log_lane shows.Join None fresh entry a g.stored p g.turns (λ fate. refl) (λ was. refl) (λ was. refl) refl)) settles
 
 pub back_shown : (r : Result (Unit {0}) AllocError) (a b c : Sketch) (p interval inc fresh : ℕ) (entry : EventAt)
-    → Turns (GoesBack interval) a b p → OnOk r (Settles b c (if b.on then mark_of (Some CameBack) false entry else []))
+    → Turns (GoesBack interval) a b p → OnOk r (Settles b c (if b.on then mark_of glyphs.Back false entry else []))
     → OnOk r (Shows a c p (shows.Back interval inc) fresh entry)
 back_shown r a b c p interval inc fresh entry t settles =
     let s : Shown = shows.Back interval inc in
-    on_ok_weaker r (λ (m : Settles b c (if b.on then mark_of (Some CameBack) false entry else [])).
-    shows_of s fresh entry (GoesBack interval) a b c p (if b.on then mark_of (Some CameBack) false entry else []) t m
-    (ap (λ (on : Bool). if on then mark_of (Some CameBack) false entry else []) t.on)
+    on_ok_weaker r (λ (m : Settles b c (if b.on then mark_of glyphs.Back false entry else [])).
+    shows_of s fresh entry (GoesBack interval) a b c p (if b.on then mark_of glyphs.Back false entry else []) t m
+    (ap (λ (on : Bool). if on then mark_of glyphs.Back false entry else []) t.on)
     (still_lane a.on s fresh entry (lane_of a p) (lane_of b p) (λ fate. refl) refl
     (ap (λ (l : LaneState). l.progress) t.turn) (ap (λ (l : LaneState). l.ended) t.turn)
     (ap (λ (l : LaneState). l.reached) t.turn) (ap (λ (l : LaneState). l.waiting) t.turn))) settles
@@ -307,10 +308,10 @@ freed_none s held p entry none =
 
 pub freed_shown : (r : Result (Unit {0}) AllocError) (a b : Sketch) (held : Bool) (p : ℕ) (title : Title) (step : PlayedEvent) (at to : Spot)
     → a.on ≡ true → held ≡ true → to ≡ record { x = at.x; lane = p } → ((spot : Spot) → title_entry title spot ≡ step_entry step spot)
-    → OnOk r (Settles a b (mark_of (Some Released) false (title_entry title to)))
+    → OnOk r (Settles a b (mark_of glyphs.Released false (title_entry title to)))
     → OnOk r (Settles a b (if a.on then released_at held p (step_entry step at) else []))
 freed_shown r a b held p title step at to on some place told settles =
     let there : Spot = record { x = at.x; lane = p } in
     subst (λ (x : Bool). OnOk r (Settles a b (if x then released_at held p (step_entry step at) else []))) (sym on)
     (subst (λ (x : Bool). OnOk r (Settles a b (released_at x p (step_entry step at)))) (sym some)
-    (subst (λ (e : EventAt). OnOk r (Settles a b (mark_of (Some Released) false e))) (ap (title_entry title) place ∙ told there) settles))
+    (subst (λ (e : EventAt). OnOk r (Settles a b (mark_of glyphs.Released false e))) (ap (title_entry title) place ∙ told there) settles))

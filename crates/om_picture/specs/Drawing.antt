@@ -1,33 +1,23 @@
 -- A picture that is being drawn: which marks it has, drawn or waiting.
-use Rattle.std.specs.Prelude.{◌≡◌, ℕ, suc, ◌+◌, ◌*◌, ◌<◌, ◌≤◌, ◌-◌, ◌==◌, Bool, false, if◌then◌else◌, is_some, nat_lt, List, [], ◌∷◌, ◌++◌, Some, drop, length, map, slice_index_or}
+use Rattle.std.specs.Prelude.{◌≡◌, ℕ, suc, ◌+◌, ◌*◌, ◌<◌, ◌≤◌, ◌==◌, Bool, false, if◌then◌else◌, List, [], ◌∷◌, ◌++◌, drop, length, map, slice_index_or}
 use Rattle.std.specs.List.{flat_map}
-use Rattle.om_picture.specs.Fates.{EventAt, EventRow, Fate, Progress, fate_behind, has_ended, highest, progress_behind}
+use Rattle.om_picture.specs.Fates.{EventRow, Fate, Progress, fate_behind, has_ended, highest, progress_behind}
 use Rattle.om_picture.specs.Held.{Held, held_behind}
-use Rattle.om_picture.specs.Marks.{AreTheSame, EventMark, Saved, Taken, Worked, is_reached, mark_of, marks_among, output_marks, shape_marks, title_entry}
+use Rattle.om_picture.specs.Marks.{AreTheSame, EventMark, fated_marks, is_reached, marks_among, shape_marks, title_entry}
 use Rattle.om_interval.specs.declared.pid.TheConstants.{MAX_PROCESSES}
 use Rattle.om_picture.specs.Places.{ArePlaced, rightmost}
 use Rattle.om_picture.specs.declared.column.TheConstants.{MOST_LEFT, WIDEST}
 use Rattle.om_picture.specs.declared.history.History.{History}
 use Rattle.om_picture.specs.declared.history.Mark.{Mark}
 use Rattle.om_picture.specs.declared.picture.Picture.{Picture}
-use Rattle.om_sheet.specs.declared.shown.Shown.{Shown}
-use Rattle.om_sheet.specs.declared.shown.Shown.TheVariants as shows
 
--- what a mark that waits comes to, of an event that showed this
-abbrev pub late_marks : Shown → ℕ → Fate → EventAt → List EventMark
-late_marks (shows.Receipt frame interval) fresh fate entry = mark_of (Some (Taken fate.stored)) fate.cut entry
-late_marks shows.Checkpoint fresh fate entry = mark_of (Some Saved) fate.cut entry
-late_marks (shows.Run sent made ends) fresh fate entry = output_marks made fresh fate entry ++ mark_of (Some Worked) fate.cut entry
-late_marks _ fresh fate entry = mark_of (Some Worked) fate.cut entry
-
--- a mark from before the window is not drawn
+-- what a mark that waits comes to; one from before the window is not drawn
 abbrev pub mark_marks : Mark → Fate → List EventMark
-mark_marks mark fate = if mark.at.x == 0 then [] else late_marks mark.shown mark.fresh fate (title_entry mark.title mark.at)
+mark_marks mark fate = if mark.at.x == 0 then [] else fated_marks mark.shown mark.fresh fate (title_entry mark.title mark.at)
 
 -- marks that wait, each with the fate of its interval
 abbrev pub waiting_marks : (ℕ → Fate) → List Mark → List EventMark
-waiting_marks fate [] = []
-waiting_marks fate (mark ∷ marks) = mark_marks mark (fate mark.interval) ++ waiting_marks fate marks
+waiting_marks fate marks = flat_map (λ mark. mark_marks mark (fate mark.interval)) marks
 
 -- what is known of a process: how far it is, whether its program ended, the highest place that it had in a recovery state, and the marks
 -- that wait

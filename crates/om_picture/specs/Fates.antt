@@ -1,6 +1,7 @@
 -- Events of a script, and what becomes of what they did: what a round cuts, what is stored, what is released.
 use Rattle.std.specs.Prelude.{◌≡◌, ◌⊎◌, ℕ, ◌+◌, ◌<◌, ◌≤◌, ◌==◌, Bool, true, false, not, ◌&&◌, ◌||◌, if◌then◌else◌, is_some, max, min, nat_le, nat_lt, List, [], ◌∷◌, ◌++◌, Option, None, Some, slice_index}
 use Rattle.std.specs.List.{fold}
+use Rattle.std.specs.Option.{option_map_or}
 use Rattle.om_process.specs.declared.accept.Accept.TheVariants as accepts
 use Rattle.om_world.specs.declared.event.Answer.{Answer}
 use Rattle.om_world.specs.declared.event.Answer.TheVariants as answers
@@ -29,13 +30,9 @@ step_entry step at = record { line = step.line; event = step.event; answer = ste
 abbrev pub step_row : PlayedEvent → Spot → EventRow
 step_row step at = record { entry = step_entry step at; fresh = step.fresh; recovery = step.recovery }
 
-abbrev pub is_process : ℕ → Option ℕ → Bool
-is_process p None = false
-is_process p (Some q) = q == p
-
 -- the event is one of this process
 abbrev pub is_of : ℕ → EventRow → Bool
-is_of p row = is_process p (process_of row.entry.event)
+is_of p row = option_map_or (λ q. q == p) (process_of row.entry.event) false
 
 -- ---- a process
 -- how far a process is: its interval, and the last one up to which all that it received is in its store
@@ -92,8 +89,7 @@ next_place p was row = max was (slice_index row.recovery p)
 
 -- the highest place of a process in the recovery states behind these events, from one on
 abbrev pub highest : ℕ → ℕ → List EventRow → ℕ
-highest p was [] = was
-highest p was (row ∷ rows) = highest p (next_place p was row) rows
+highest p was rows = fold (next_place p) was rows
 
 -- a round that is finished with this event cuts the interval: no recovery state has covered it, up to this place
 abbrev pub cuts : ℕ → ℕ → EventRow → Bool

@@ -1,5 +1,6 @@
 -- What waits on the lane of a process until a recovery state covers it or a round cuts it, and with which event its outputs are released.
-use Rattle.std.specs.Prelude.{◌≡◌, ◌≢◌, ◌<◌, ◌≤◌, ℕ, ◌==◌, Bool, true, false, not, ◌&&◌, ◌||◌, if◌then◌else◌, nat_le, nat_lt, List, [], ◌∷◌, ◌++◌}
+use Rattle.std.specs.Prelude.{◌≡◌, ◌≢◌, ◌<◌, ◌≤◌, ℕ, ◌==◌, Bool, true, false, not, ◌&&◌, if◌then◌else◌, nat_le, nat_lt, List, [], ◌∷◌, ◌++◌}
+use Rattle.std.specs.List.{list_any}
 use Rattle.om_picture.specs.Fates.{EventRow, has_ended, highest, interval_behind, is_of}
 use Rattle.om_sheet.specs.Shows.{is_finished, shown}
 use Rattle.om_sheet.specs.declared.shown.Shown.{Shown}
@@ -47,19 +48,15 @@ held_from p before was (row ∷ rows) = held_from p (before ++ row ∷ []) (next
 abbrev pub held_behind : ℕ → List EventRow → List Held
 held_behind p rows = held_from p [] [] rows
 
--- there are outputs among these that were made elsewhere than at a place
+-- it has outputs that were made elsewhere than at a place
 abbrev pub is_elsewhere : ℕ → Held → Bool
 is_elsewhere x held = nat_lt 0 held.fresh && not (held.x == x)
-
-abbrev pub is_any_elsewhere : ℕ → List Held → Bool
-is_any_elsewhere x [] = false
-is_any_elsewhere x (held ∷ more) = is_elsewhere x held || is_any_elsewhere x more
 
 -- with an event, behind others, outputs of a process are released that were held until then: its recovery state is the first that covers
 -- their interval, and all that waits before them
 abbrev pub releases : ℕ → List EventRow → EventRow → Bool
 releases p before row =
-    is_any_elsewhere row.entry.at.x (covered_by (highest p 0 (before ++ row ∷ [])) (held_behind p before ++ left_by p before row))
+    list_any (is_elsewhere row.entry.at.x) (covered_by (highest p 0 (before ++ row ∷ [])) (held_behind p before ++ left_by p before row))
 
 -- with one of these events the process handed in outputs that stand elsewhere than at a place, in an interval that does not lie beyond
 -- a place of it in a recovery state

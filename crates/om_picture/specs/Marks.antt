@@ -1,8 +1,8 @@
 -- Which marks stand for which events.
-use Rattle.std.specs.Prelude.{◌≡◌, ℕ, zero, suc, ◌==◌, Bool, false, ◌||◌, if◌then◌else◌, nat_le, nat_lt, List, [], ◌∷◌, ◌++◌, Option, None, Some}
-use Rattle.std.specs.List.{flat_map, sum_by}
+use Rattle.std.specs.Prelude.{◌≡◌, ℕ, zero, suc, ◌==◌, Bool, false, if◌then◌else◌, nat_le, nat_lt, List, [], ◌∷◌, ◌++◌, Option, None, Some}
+use Rattle.std.specs.List.{flat_map, list_any, sum_by}
 use Rattle.om_picture.specs.Fates.{EventAt, EventRow, Fate, fate_of, has_ended, has_loose, interval_behind, progress_behind}
-use Rattle.om_picture.specs.Held.{releases}
+use Rattle.om_picture.specs.Held.{may_wait, releases}
 use Rattle.om_sheet.specs.Shows.{process_of, shown}
 use Rattle.om_sheet.specs.declared.sheet.Drawn.{Drawn}
 use Rattle.om_sheet.specs.declared.sheet.Glyph.{Glyph}
@@ -16,93 +16,61 @@ use Rattle.om_sheet.specs.declared.shown.Shown.TheVariants as shows
 abbrev pub title_entry : Title → Spot → EventAt
 title_entry title at = record { line = title.line; event = title.event; answer = title.answer; at = at }
 
--- what the mark of an event says
-pub data Kind : Type 0 where
-  -- a receipt: filled, if it is stored
-  Taken : Bool → Kind
-  NotTaken : Kind
-  -- receipts that were in memory only are stored: the first ones, or all
-  Logged : Kind
-  Saved : Kind
-  -- outputs that were made: filled, if they are released
-  Made : Bool → Kind
-  -- outputs that were held are released
-  Released : Kind
-  -- the stem below them; again, they were all made before
-  Stands : Bool → Kind
-  -- a run, or messages that were sent again
-  Worked : Kind
-  Failed : Kind
-  Joined : Kind
-  CameBack : Kind
-  WentOn : Kind
+-- what a form says of its event: the end of a program no more than another run, and a flush not where it begins
+abbrev pub form_of : Glyph → Glyph
+form_of glyphs.End = glyphs.Dot
+form_of (glyphs.Flush from) = glyphs.Flush 0
+form_of glyph = glyph
 
--- the mark of an event, whether it is drawn as cut, and of which
+-- the mark of an event: its form, whether it is drawn as cut, and of which
 pub record EventMark : Type 0 where
-  pub kind : Kind
+  pub form : Glyph
   pub cut : Bool
   pub entry : EventAt
 
-abbrev pub mark_of : Option Kind → Bool → EventAt → List EventMark
-mark_of None cut entry = []
-mark_of (Some kind) cut entry = record { kind = kind; cut = cut; entry = entry } ∷ []
-
--- what a form that is drawn says of its event
-abbrev pub kind_drawn : Glyph → Option Kind
-kind_drawn (glyphs.Receipt stored) = Some (Taken stored)
-kind_drawn glyphs.Checkpoint = Some Saved
-kind_drawn (glyphs.Stem again) = Some (Stands again)
-kind_drawn (glyphs.Head released) = Some (Made released)
-kind_drawn glyphs.End = Some Worked
-kind_drawn glyphs.Dot = Some Worked
-kind_drawn glyphs.Refused = Some NotTaken
-kind_drawn (glyphs.Flush from) = Some Logged
-kind_drawn glyphs.Failure = Some Failed
-kind_drawn glyphs.Join = Some Joined
-kind_drawn glyphs.Back = Some CameBack
-kind_drawn glyphs.GoesOn = Some WentOn
-kind_drawn glyphs.Released = Some Released
+abbrev pub mark_of : Glyph → Bool → EventAt → List EventMark
+mark_of form cut entry = record { form = form; cut = cut; entry = entry } ∷ []
 
 -- the marks of events among those that are drawn
 abbrev pub shape_marks : Shape → List EventMark
-shape_marks shape = mark_of (kind_drawn shape.glyph) shape.cut (title_entry shape.title shape.at)
+shape_marks shape = mark_of (form_of shape.glyph) shape.cut (title_entry shape.title shape.at)
 
 -- what was received and is in memory only is stored, if there is such a thing
 abbrev pub log_marks : Bool → EventAt → List EventMark
-log_marks loose entry = if loose then mark_of (Some Logged) false entry else []
+log_marks loose entry = if loose then mark_of (glyphs.Flush 0) false entry else []
 
 -- the marks of an event that no round cuts; loose: its process has received something that is in memory only
 abbrev pub sure_marks : Bool → Shown → EventAt → List EventMark
-sure_marks loose (shows.Refused frame) entry = mark_of (Some NotTaken) false entry
+sure_marks loose (shows.Refused frame) entry = mark_of glyphs.Refused false entry
 sure_marks loose shows.Flush entry = log_marks loose entry
 sure_marks loose (shows.FlushFirst count) entry = log_marks loose entry
-sure_marks loose (shows.Failure declared) entry = mark_of (Some Failed) false entry
-sure_marks loose shows.Join entry = log_marks loose entry ++ mark_of (Some Joined) false entry
-sure_marks loose (shows.Back interval inc) entry = mark_of (Some CameBack) false entry
-sure_marks loose shows.GoesOn entry = mark_of (Some WentOn) false entry
+sure_marks loose (shows.Failure declared) entry = mark_of glyphs.Failure false entry
+sure_marks loose shows.Join entry = log_marks loose entry ++ mark_of glyphs.Join false entry
+sure_marks loose (shows.Back interval inc) entry = mark_of glyphs.Back false entry
+sure_marks loose shows.GoesOn entry = mark_of glyphs.GoesOn false entry
 sure_marks loose _ entry = []
 
 -- outputs that a run made: their stem, and their head if it handed in new ones
 abbrev pub output_marks : ℕ → ℕ → Fate → EventAt → List EventMark
 output_marks made fresh fate entry =
     if made == 0 then []
-    else mark_of (Some (Stands (fresh == 0))) fate.cut entry
-    ++ (if fresh == 0 then [] else mark_of (Some (Made fate.covered)) fate.cut entry)
+    else mark_of (glyphs.Stem (fresh == 0)) fate.cut entry
+    ++ (if fresh == 0 then [] else mark_of (glyphs.Head fate.covered) fate.cut entry)
 
--- the marks of an event that a round may cut
+-- the marks of an event that waits for its fate: a run, messages that were sent again, a receipt or a checkpoint
 abbrev pub fated_marks : Shown → ℕ → Fate → EventAt → List EventMark
-fated_marks (shows.Run sent made ends) fresh fate entry = output_marks made fresh fate entry ++ mark_of (Some Worked) fate.cut entry
-fated_marks (shows.Resend sent) fresh fate entry = mark_of (Some Worked) fate.cut entry
-fated_marks (shows.Receipt frame interval) fresh fate entry = mark_of (Some (Taken fate.stored)) fate.cut entry
-fated_marks shows.Checkpoint fresh fate entry = mark_of (Some Saved) fate.cut entry
-fated_marks _ fresh fate entry = []
+fated_marks (shows.Run sent made ends) fresh fate entry = output_marks made fresh fate entry ++ mark_of glyphs.Dot fate.cut entry
+fated_marks (shows.Receipt frame interval) fresh fate entry = mark_of (glyphs.Receipt fate.stored) fate.cut entry
+fated_marks shows.Checkpoint fresh fate entry = mark_of glyphs.Checkpoint fate.cut entry
+fated_marks _ fresh fate entry = mark_of glyphs.Dot fate.cut entry
 
 -- the marks of an event of a process, by what it showed and what became of it: rows stand before it and behind it
 abbrev pub event_marks : ℕ → List EventRow → EventRow → List EventRow → List EventMark
 event_marks p before row later =
     let shows = shown (has_ended p before) row.entry.event row.entry.answer in
+    let fate = fate_of p (interval_behind p (before ++ row ∷ [])) before (row ∷ later) in
     sure_marks (has_loose (progress_behind p before)) shows row.entry
-    ++ fated_marks shows row.fresh (fate_of p (interval_behind p (before ++ row ∷ [])) before (row ∷ later)) row.entry
+    ++ (if may_wait shows then fated_marks shows row.fresh fate row.entry else [])
 
 -- if its process is one of so many
 abbrev pub marks_on : ℕ → Option ℕ → List EventRow → EventRow → List EventRow → List EventMark
@@ -111,12 +79,11 @@ marks_on n (Some p) before row later = if nat_lt p n then event_marks p before r
 
 -- the window: the events from the first one on that stands on its first line or behind it
 abbrev pub is_reached : ℕ → List EventRow → Bool
-is_reached first [] = false
-is_reached first (row ∷ rows) = nat_le first row.entry.line || is_reached first rows
+is_reached first rows = list_any (λ row. nat_le first row.entry.line) rows
 
 -- on the lane of a process, in the column of an event, it is told that outputs are released with it
 abbrev pub released_at : Bool → ℕ → EventAt → List EventMark
-released_at told p entry = mark_of (if told then Some Released else None) false (record entry { at = record { x = entry.at.x; lane = p } })
+released_at told p entry = if told then mark_of glyphs.Released false (record entry { at = record { x = entry.at.x; lane = p } }) else []
 
 -- on the lanes below one
 abbrev pub released_below : ℕ → List EventRow → EventRow → List EventMark

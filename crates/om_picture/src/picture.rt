@@ -4,7 +4,7 @@ ghost use Rattle.std.specs.Prelude.{◌≡◌, ◌==◌, ◌<◌, ◌≤◌, not
 ghost use Rattle.om_picture.specs.Drawing.{IsSketchOf, held_in, lane_of, sketch_of};
 ghost use Rattle.om_picture.specs.Fates.{EventRow, has_loose, step_entry, step_row};
 ghost use Rattle.om_picture.specs.Held.{covered_by};
-ghost use Rattle.om_picture.specs.Marks.{kind_drawn, mark_of, shape_marks, title_entry};
+ghost use Rattle.om_picture.specs.Marks.{form_of, mark_of, shape_marks, title_entry};
 ghost use Rattle.om_sheet.specs.Shows.{is_finished};
 ghost use Rattle.om_sheet.specs.declared.sheet.Spot.{Spot};
 ghost use Rattle.om_picture.specs.steps.Adding.{AreNew, Ends, GoesBack, Raises, ReachesWindow, Receives, Settles, SettlesIf, Shows, ShowsEvent, ShowsOn, Stores, TakesCovered, TakesFirst, Turns, Waits};
@@ -234,7 +234,7 @@ impl Picture {
         at: Spot,
     ) -> Result<(), AllocError>
         ensures { OnOk result (Settles (sketch_of self.old) (sketch_of self.new)
-            (if self.old.on then mark_of (kind_drawn glyph) false (step_entry step.now at) else [])) }
+            (if self.old.on then mark_of (form_of glyph) false (step_entry step.now at) else [])) }
     {
         if !self.on {
             return Ok(());

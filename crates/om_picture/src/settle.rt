@@ -4,8 +4,8 @@ ghost use Rattle.std.specs.Prelude.{◌≡◌, ◌<◌, nat_lt, [], if◌then◌
 ghost use Rattle.om_picture.specs.Drawing.{held_of, lane_of, mark_marks, sketch_of};
 ghost use Rattle.om_picture.specs.Fates.{step_entry, step_row};
 ghost use Rattle.om_picture.specs.Held.{is_elsewhere};
-ghost use Rattle.om_picture.specs.Marks.{kind_drawn, mark_of, output_marks, released_at, title_entry};
-ghost use Rattle.om_picture.specs.steps.Adding.{LearnsAll, LearnsAt, Settles, fate_in, fate_now, frees, kept, kind_late, lane_number, made_by};
+ghost use Rattle.om_picture.specs.Marks.{form_of, mark_of, output_marks, released_at, title_entry};
+ghost use Rattle.om_picture.specs.steps.Adding.{LearnsAll, LearnsAt, Settles, fate_in, fate_now, form_late, frees, kept, lane_number, made_by};
 
 use crate::history::{Mark, Next};
 use crate::lane::{lane_y, or_left};
@@ -60,7 +60,7 @@ fn shape_of(glyph: Glyph, mark: &Mark, fate: FateNow) -> Shape
 
 // Returns the form of a mark.
 fn glyph_of(shown: Shown, fate: FateNow) -> Glyph
-    ensures { kind_drawn result ≡ Some (kind_late shown (fate_in fate)) }
+    ensures { form_of result ≡ form_late shown (fate_in fate) }
 {
     match shown {
         Shown::Receipt { .. } => Glyph::Receipt {
@@ -194,7 +194,7 @@ impl Picture {
     // Draws a form at the place of a mark.
     fn add_form(&mut self, glyph: Glyph, mark: &Mark, fate: FateNow) -> Result<(), AllocError>
         ensures { OnOk result (Settles (sketch_of self.old) (sketch_of self.new)
-            (mark_of (kind_drawn glyph) fate.cut (title_entry mark.now.title mark.now.at))) }
+            (mark_of (form_of glyph) fate.cut (title_entry mark.now.title mark.now.at))) }
     {
         self.add_shape(&shape_of(glyph, mark, fate))
     }

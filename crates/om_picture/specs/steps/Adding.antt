@@ -1,9 +1,10 @@
 -- Marks that are added to a picture, one step of its drawing at a time.
-use Rattle.std.specs.Prelude.{◌≡◌, ◌≢◌, ℕ, zero, suc, ◌+◌, ◌^◌, ◌<◌, ◌≤◌, ◌-◌, ◌==◌, Bool, true, false, not, ◌&&◌, ◌||◌, if◌then◌else◌, is_some, max, nat_le, nat_lt, List, [], ◌∷◌, ◌++◌, Option, None, Some, length, slice_index, slice_set}
+use Rattle.std.specs.Prelude.{◌≡◌, ◌≢◌, ℕ, zero, suc, ◌+◌, ◌^◌, ◌<◌, ◌≤◌, ◌==◌, Bool, true, false, not, ◌&&◌, ◌||◌, if◌then◌else◌, is_some, max, nat_le, nat_lt, List, [], ◌∷◌, ◌++◌, Option, None, Some, length, slice_index, slice_set}
+use Rattle.std.specs.List.{list_any}
 use Rattle.om_picture.specs.Drawing.{Edge, LaneState, Sketch, all_marks, held_in, lane_in, lane_marks, lane_of, new_lane, waiting_marks}
 use Rattle.om_picture.specs.Fates.{EventAt, EventRow, Fate, Progress, cuts, has_ended, has_loose, highest, is_cut, is_saved, next_place, progress_behind, saved}
-use Rattle.om_picture.specs.Marks.{AreTheSame, EventMark, Kind, Saved, Taken, Worked, fated_marks, log_marks, marks_on, released_at, sure_marks, title_entry}
-use Rattle.om_picture.specs.Held.{covered_by, held_behind, is_any_elsewhere, left_by, left_behind, may_wait}
+use Rattle.om_picture.specs.Marks.{AreTheSame, EventMark, fated_marks, log_marks, marks_on, released_at, sure_marks, title_entry}
+use Rattle.om_picture.specs.Held.{covered_by, held_behind, is_elsewhere, left_by, left_behind, may_wait}
 use Rattle.om_picture.specs.Places.{is_shown}
 use Rattle.om_sheet.specs.Shows.{process_of, shown}
 use Rattle.om_picture.specs.declared.column.TheConstants.{WIDEST}
@@ -11,6 +12,8 @@ use Rattle.om_picture.specs.declared.history.History.{History}
 use Rattle.om_picture.specs.declared.history.Mark.{Mark}
 use Rattle.om_picture.specs.declared.history.Next.{Next}
 use Rattle.om_picture.specs.declared.settle.FateNow.{FateNow}
+use Rattle.om_sheet.specs.declared.sheet.Glyph.{Glyph}
+use Rattle.om_sheet.specs.declared.sheet.Glyph.TheVariants as glyphs
 use Rattle.om_sheet.specs.declared.shown.Shown.{Shown}
 use Rattle.om_sheet.specs.declared.shown.Shown.TheVariants as shows
 
@@ -141,6 +144,10 @@ ended_shown was (shows.Run sent made ends) = was || is_some ends
 ended_shown was (shows.Back interval inc) = false
 ended_shown was _ = was
 
+-- the marks of an event that waits, if it does
+abbrev pub fated_if : Shown → ℕ → Fate → EventAt → List EventMark
+fated_if shown fresh fate entry = if may_wait shown then fated_marks shown fresh fate entry else []
+
 -- what the lane of its process is behind it, and what its marks come to: the new one among them
 pub record LaneShows (on : Bool) (shown : Shown) (fresh : ℕ) (entry : EventAt) (old new : LaneState) : Type 0 where
   pub progress : new.progress ≡ progress_shown old.progress shown
@@ -149,7 +156,7 @@ pub record LaneShows (on : Bool) (shown : Shown) (fresh : ℕ) (entry : EventAt)
   pub held : held_in new
       ≡ held_in old ++ (if may_wait shown then record { interval = new.progress.interval; fresh = fresh; x = entry.at.x } ∷ [] else [])
   pub waits : (fate : ℕ → Fate) → waiting_marks fate new.waiting
-      ≡ waiting_marks fate old.waiting ++ (if on then fated_marks shown fresh (fate new.progress.interval) entry else [])
+      ≡ waiting_marks fate old.waiting ++ (if on then fated_if shown fresh (fate new.progress.interval) entry else [])
 
 -- an event of a process shows this
 pub record Shows (old new : Sketch) (p : ℕ) (shown : Shown) (fresh : ℕ) (entry : EventAt) : Type 0 where
@@ -204,10 +211,10 @@ kept = record { cut = false; covered = true; stored = true }
 abbrev pub fate_in : FateNow → Fate
 fate_in fate = record { cut = fate.cut; covered = fate.covered; stored = fate.stored }
 
-abbrev pub kind_late : Shown → Fate → Kind
-kind_late (shows.Receipt frame interval) fate = Taken fate.stored
-kind_late shows.Checkpoint fate = Saved
-kind_late _ fate = Worked
+abbrev pub form_late : Shown → Fate → Glyph
+form_late (shows.Receipt frame interval) fate = glyphs.Receipt fate.stored
+form_late shows.Checkpoint fate = glyphs.Checkpoint
+form_late _ fate = glyphs.Dot
 
 abbrev pub made_by : Shown → ℕ
 made_by (shows.Run sent made ends) = made
@@ -246,7 +253,7 @@ pub record KeepsWith (more : List EventMark) (value : ℕ → LaneState → List
 
 -- outputs are released that a lane holds, with this event
 abbrev pub frees : EventRow → ℕ → LaneState → Bool
-frees row p lane = is_any_elsewhere row.entry.at.x (covered_by (next_place p lane.reached row) (held_in lane))
+frees row p lane = list_any (is_elsewhere row.entry.at.x) (covered_by (next_place p lane.reached row) (held_in lane))
 
 -- so it is told on the lanes below one
 abbrev pub freed_below : EventRow → Sketch → ℕ → List EventMark
@@ -259,8 +266,8 @@ pub record Learning (row : EventRow) (found : Bool) (old new : Sketch) (p : ℕ)
   pub keeps : (later : List EventRow) → KeepsMarks (amid_marks row later) old new
   pub here : TellsPlace (slice_index row.recovery p) (lane_of old p) (lane_of new p)
   pub left : left_behind (lane_of new p).reached (held_in (lane_of old p)) ≡ left_behind (lane_of new p).reached (held_in (lane_of new p))
-  pub freed : is_any_elsewhere row.entry.at.x (covered_by (lane_of new p).reached (held_in (lane_of old p)))
-      ≡ (found || is_any_elsewhere row.entry.at.x (covered_by (lane_of new p).reached (held_in (lane_of new p))))
+  pub freed : list_any (is_elsewhere row.entry.at.x) (covered_by (lane_of new p).reached (held_in (lane_of old p)))
+      ≡ (found || list_any (is_elsewhere row.entry.at.x) (covered_by (lane_of new p).reached (held_in (lane_of new p))))
   pub others : (q : ℕ) → q ≢ p → lane_of new q ≡ lane_of old q
 
 -- a lane learns its place in a recovery state
