@@ -1,14 +1,16 @@
 -- What is written piece by piece is the whole text.
-use Rattle.std.proofs.Common.{◌≡◌, ℕ, ◌+◌, ◌-◌, List, ◌∷◌, ◌++◌, OnOk, Result, Ok, Err, if◌then◌else◌, is_ok, sym, ap, ◌∙◌, append_assoc, codes, decimal}
+use Rattle.std.proofs.Common.{◌≡◌, ℕ, ◌+◌, ◌-◌, ◌==◌, Bool, false, inl, inr, List, ◌∷◌, ◌++◌, OnOk, Result, Ok, Err, if◌then◌else◌, is_ok, sym, ap, ◌∙◌, append_assoc, codes, decimal}
 use Rattle.std.specs.List.{flat_map}
+use Rattle.std.proofs.lemmas.Bool.{eq-eqb}
+use Rattle.std.proofs.lemmas.Bool.Decides.{eqb_tells}
 use Rattle.om_sheet.specs.declared.sheet.Band.{Band}
 use Rattle.om_sheet.specs.declared.sheet.Crossing.{Crossing}
 use Rattle.om_sheet.specs.declared.sheet.Drawn.{Drawn}
 use Rattle.om_sheet.specs.declared.sheet.Shape.{Shape}
 use Rattle.om_sheet.specs.declared.sheet.Spot.{Spot}
 use Rattle.om_svg.specs.PictureText.{counts_text, head_text, open_text, styles_text, summary_text}
-use Rattle.om_svg.specs.ShapeText.{above_of, band_text, circle_text, class_of, line_kind_class, crossed_title, crossing_text, cut_letter, flush_text, height, left_of, path_end, path_of, path_text, place_text, square_text, start_of, title_text, turning_text}
-use Rattle.om_svg.specs.steps.Marks.{band_at, band_end, band_left, band_parts, band_width, circle_at, circle_end, circle_parts, circle_start, circle_x, circle_y, line_kind_text, crossing_parts, flush_at, flush_end, flush_parts, flush_start, line_text, path_at, path_middle, path_parts, path_start, path_tail, square_at, square_class, square_end, square_parts, square_x, turning_at, turning_end, turning_parts, turning_start}
+use Rattle.om_svg.specs.ShapeText.{band_text, circle_text, line_kind_class, crossed_title, crossing_text, arrow_text, cut_letter, flush_text, height, look_of, path_end, path_text, place_text, square_text, start_of, title_text}
+use Rattle.om_svg.specs.steps.Marks.{band_at, band_end, band_left, band_parts, band_width, circle_at, circle_end, circle_parts, circle_start, circle_x, circle_y, line_kind_text, crossing_parts, flush_at, flush_end, flush_parts, flush_start, line_text, path_at, path_middle, path_parts, path_start, path_tail, square_at, square_class, square_end, square_parts, square_x, straight_parts, turning_at, turning_end, turning_parts, turning_start}
 use Rattle.om_svg.specs.steps.Sheets.{failure_count, ground_height, ground_width, head_parts, open_parts, outputs_text, refused_count, resent_count, sent_count, shown_count, svg_height, svg_width, taken_count, view_text}
 
 -- what was written in parts is the whole
@@ -42,8 +44,11 @@ head_ends old r s t u v w a b c d e f end one two three four five six =
 band_grouped : (a b c d e f g : List ℕ) → a ++ b ++ c ++ d ++ e ++ f ++ g ≡ ((a ++ b) ++ (c ++ d)) ++ (e ++ f ++ g)
 band_grouped a b c d e f g = simp append_assoc
 
-two_grouped : (a b c d e f : List ℕ) → a ++ b ++ c ++ d ++ e ++ f ≡ (a ++ b ++ c) ++ (d ++ e ++ f)
-two_grouped a b c d e f = simp append_assoc
+turning_grouped : (a b c d e f : List ℕ) → a ++ b ++ c ++ (d ++ e ++ f) ≡ (a ++ b ++ c) ++ (d ++ e ++ f)
+turning_grouped a b c d e f = simp append_assoc
+
+straight_grouped : (a b c d e f g : List ℕ) → a ++ b ++ c ++ (d ++ e ++ f ++ g) ≡ a ++ b ++ c ++ d ++ e ++ f ++ g
+straight_grouped a b c d e f g = simp append_assoc
 
 circle_grouped : (a b c d e f g h i j k l : List ℕ) → a ++ b ++ c ++ d ++ e ++ f ++ g ++ h ++ i ++ j ++ k ++ l
     ≡ (a ++ b ++ c) ++ ((d ++ e) ++ (f ++ g)) ++ (h ++ i ++ j) ++ k ++ l
@@ -76,15 +81,36 @@ band_is bottom band =
     band_grouped (codes "<rect class=\"b\" x=\"") (decimal band.left) (codes "\" y=\"74\" width=\"") (decimal (band.right - band.left))
     (codes "\" height=\"") (decimal (bottom - 74)) (codes "\"/>\n")
 
-pub turning_is : (from to : Spot) → turning_text from to ≡ turning_parts from to
-unfolding turning_text turning_parts turning_at turning_start turning_end
-turning_is from to =
-    two_grouped (codes "M") (decimal from.x) (32 ∷ decimal (height from.lane)) (codes "q0-15 8-15H") (decimal (to.x - 8)) (codes "q8 0 8 15\"/>\n")
+-- the part of an arrow from where it begins on, by whether it stays on its lane
+abbrev arrow_by : Bool → Spot → Spot → List ℕ
+arrow_by same from to =
+    codes "M" ++ decimal from.x ++ 32 ∷ decimal (height from.lane)
+    ++ (if same then codes "q0-15 8-15H" ++ decimal (to.x - 8) ++ codes "q8 0 8 15\"/>\n"
+    else codes "L" ++ decimal to.x ++ 32 ∷ decimal (height to.lane) ++ codes "\"/>\n")
+
+pub turning_is : (from to : Spot) → from.lane ≡ to.lane → arrow_text from to ≡ turning_parts from to
+unfolding arrow_text turning_parts turning_at turning_start turning_end
+turning_is from to same =
+    ap (λ (b : Bool). arrow_by b from to) (eq-eqb from.lane to.lane same)
+    ∙ turning_grouped (codes "M") (decimal from.x) (32 ∷ decimal (height from.lane)) (codes "q0-15 8-15H") (decimal (to.x - 8)) (codes "q8 0 8 15\"/>\n")
+
+apart : (a b : ℕ) → (a ≡ b → ⊥) → (a == b) ≡ false
+apart a b away = elim (eqb_tells a b) [
+  | inl same ↦ absurd (away same.1)
+  | inr other ↦ other.0
+]
+
+pub straight_is : (from to : Spot) → (from.lane ≡ to.lane → ⊥) → arrow_text from to ≡ straight_parts from to
+unfolding arrow_text straight_parts
+straight_is from to away =
+    ap (λ (b : Bool). arrow_by b from to) (apart from.lane to.lane away)
+    ∙ straight_grouped (codes "M") (decimal from.x) (32 ∷ decimal (height from.lane)) (codes "L") (decimal to.x) (32 ∷ decimal (height to.lane))
+    (codes "\"/>\n")
 
 pub circle_is : (shape : Shape) (radius : ℕ) → circle_text shape radius ≡ circle_parts shape radius
 unfolding circle_text circle_parts circle_at circle_start circle_x circle_y circle_end
 circle_is shape radius =
-    circle_grouped (codes "<circle class=\"") (class_of shape.glyph) (cut_letter shape.cut) (codes "\" cx=\"") (decimal shape.at.x)
+    circle_grouped (codes "<circle class=\"") (look_of shape.glyph).class (cut_letter shape.cut) (codes "\" cx=\"") (decimal shape.at.x)
     (codes "\" cy=\"") (decimal (height shape.at.lane)) (codes "\" r=\"") (decimal radius) (codes "\">") (title_text shape.title) (codes "</circle>\n")
 
 pub square_is : (shape : Shape) → square_text shape ≡ square_parts shape
@@ -102,8 +128,9 @@ flush_is shape from =
 pub path_is : (shape : Shape) → path_text shape ≡ path_parts shape
 unfolding path_text path_parts path_at path_start path_middle path_tail
 path_is shape =
-    path_grouped (codes "<path class=\"") (class_of shape.glyph) (cut_letter shape.cut) (codes "\" d=\"M") (decimal (shape.at.x - left_of shape.glyph))
-    (32 ∷ decimal (height shape.at.lane - above_of shape.glyph)) (path_of shape.glyph) (codes "\"") (path_end shape.glyph shape.title)
+    let look = look_of shape.glyph in
+    path_grouped (codes "<path class=\"") look.class (cut_letter shape.cut) (codes "\" d=\"M") (decimal (shape.at.x - look.left))
+    (32 ∷ decimal (height shape.at.lane - look.up)) look.path (codes "\"") (path_end shape.glyph shape.title)
 
 pub crossing_is : (crossing : Crossing) → crossing_text crossing ≡ crossing_parts crossing
 unfolding crossing_text crossing_parts line_text line_kind_text

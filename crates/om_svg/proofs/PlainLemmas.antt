@@ -2,7 +2,7 @@
 use Rattle.std.proofs.Common.{◌≡◌, ◌<◌, ◌%◌, ◌/◌, ◌==◌, ℕ, zero, suc, Bool, true, false, List, [], ◌∷◌, ◌++◌, Option, Some, None, refl, arith, if◌then◌else◌, ◌&&◌, ◌-◌, nat_le, take, slice_get, slice_index, slice_index_or, codes}
 use Rattle.std.specs.Fmt.{digits, digits_onto, digit_glyph, decimal}
 use Rattle.std.specs.List.{flat_map, list_all}
-use Rattle.std.specs.Option.{option_map}
+use Rattle.std.specs.Option.{option_map, unwrap_or}
 use Rattle.std.proofs.lemmas.Bool.Decides.{nat_tests}
 use Rattle.hex.specs.Hex.{encode_lower, encode_with, lower_digits}
 use Rattle.om_manager.specs.declared.answers.Gathered.TheVariants.{Waiting, Finished}
@@ -23,7 +23,7 @@ use Rattle.om_svg.specs.AnswerText.{recovery_text, why_word}
 use Rattle.om_world.specs.Texts.{accept_word, answer_text, event_text, refusal_word, status_text}
 use Rattle.om_svg.specs.Plain.{HasPlainNames, is_plain, is_plain_text}
 use Rattle.om_svg.specs.ShapeText.{changed_text, detail_text, numbers_text, told_text}
-use Rattle.om_svg.specs.WordText.{bytes_text, label_text, name_text, end_state_text, content_text}
+use Rattle.om_svg.specs.WordText.{bytes_text, label_text, end_state_text, content_text}
 use Rattle.om_sheet.specs.declared.sheet.TitleDetail.{TitleDetail}
 use Rattle.om_sheet.specs.declared.sheet.TitleDetail.TheVariants as details
 use Rattle.om_sheet.specs.declared.sheet.Numbers.{Numbers}
@@ -103,7 +103,7 @@ pub plain-name : (name : List ℕ) → is_name name ≡ true → is_plain_text n
 plain-name name p = plain-name_bytes name (both_parts _ (list_all is_name_byte name) p).1
 
 plain-entry : {B : Type 0} (es : List (List ℕ × B)) (p : ℕ) → list_all (λ e. is_plain_text e.0) es ≡ true
-    → is_plain_text (name_text (option_map (λ e. e.0) (slice_get es p))) ≡ true
+    → is_plain_text (unwrap_or (option_map (λ e. e.0) (slice_get es p)) []) ≡ true
 plain-entry [] p names = refl
 plain-entry (e ∷ es) zero names = (both_parts _ _ names).0
 plain-entry (e ∷ es) (suc p) names = plain-entry es p (both_parts _ _ names).1
@@ -115,7 +115,7 @@ plain-or (e ∷ es) zero d names q = (both_parts _ _ names).0
 plain-or (e ∷ es) (suc p) d names q = plain-or es p d (both_parts _ _ names).1 q
 
 plain-option : {A : Type 0} (o : Option A) (name : A → List ℕ) → ((a : A) → is_plain_text (name a) ≡ true)
-    → is_plain_text (name_text (option_map name o)) ≡ true
+    → is_plain_text (unwrap_or (option_map name o) []) ≡ true
 plain-option None name p = refl
 plain-option (Some a) name p = p a
 

@@ -51,30 +51,15 @@ segment_text (segments.Span kind lane from to) =
 segment_text (segments.Tick x) = codes "<path class=\"q\" d=\"M" ++ decimal x ++ codes " 57v4\"/>\n"
 
 -- from a sending to a receipt: straight, and over the lane where it is one
-abbrev pub straight_text : Spot → Spot → List ℕ
-straight_text from to =
-    codes "M" ++ decimal from.x ++ 32 ∷ decimal (height from.lane) ++ codes "L" ++ decimal to.x ++ 32 ∷ decimal (height to.lane)
-    ++ codes "\"/>\n"
-
--- over the lane
-unfoldable pub turning_text : Spot → Spot → List ℕ
-turning_text from to =
-    codes "M" ++ decimal from.x ++ 32 ∷ decimal (height from.lane) ++ codes "q0-15 8-15H" ++ decimal (to.x - 8) ++ codes "q8 0 8 15\"/>\n"
-
 unfoldable pub arrow_text : Spot → Spot → List ℕ
-arrow_text from to = if from.lane == to.lane then turning_text from to else straight_text from to
-
-abbrev pub message_class : Bool → List ℕ
-message_class true = codes "n"
-message_class false = codes "m"
-
-abbrev pub stub_path : Bool → List ℕ
-stub_path true = codes "l8 11m-3 2l6-4"
-stub_path false = codes "l8-11m-3-2l6 4"
+arrow_text from to =
+    codes "M" ++ decimal from.x ++ 32 ∷ decimal (height from.lane)
+    ++ (if from.lane == to.lane then codes "q0-15 8-15H" ++ decimal (to.x - 8) ++ codes "q8 0 8 15\"/>\n"
+    else codes "L" ++ decimal to.x ++ 32 ∷ decimal (height to.lane) ++ codes "\"/>\n")
 
 -- where the line of a message begins, by whether it was sent again, and whether it was cut
 unfoldable pub message_start : Bool → Bool → List ℕ
-message_start again cut = codes "<path class=\"" ++ message_class again ++ cut_letter cut ++ codes "\" d=\""
+message_start again cut = codes "<path class=\"" ++ (if again then codes "n" else codes "m") ++ cut_letter cut ++ codes "\" d=\""
 
 -- a line across the lanes
 abbrev pub message_line_text : MessageLine → List ℕ
@@ -89,7 +74,8 @@ message_line_text (message_lines.Held from to) =
     codes "<path class=\"o\" d=\"M" ++ decimal (from + 5) ++ 32 ∷ decimal (height to.lane - 19)
     ++ codes "H" ++ decimal (to.x - 3) ++ codes "\"/>\n"
 message_line_text (message_lines.Stub below from) =
-    codes "<path class=\"q\" d=\"M" ++ decimal from.x ++ 32 ∷ decimal (height from.lane) ++ stub_path below ++ codes "\"/>\n"
+    codes "<path class=\"q\" d=\"M" ++ decimal from.x ++ 32 ∷ decimal (height from.lane)
+    ++ (if below then codes "l8 11m-3 2l6-4" else codes "l8-11m-3-2l6 4") ++ codes "\"/>\n"
 
 -- numbers of outputs or of frames, if there are some
 unfoldable pub numbers_text : List ℕ → Numbers → List ℕ
@@ -120,60 +106,32 @@ told_text title =
 unfoldable pub title_text : Title → List ℕ
 title_text title = codes "<title>" ++ told_text title ++ codes "</title>"
 
--- the class of a mark
-abbrev pub class_of : Glyph → List ℕ
-class_of (glyphs.Receipt stored) = if stored then codes "l" else codes "v"
-class_of glyphs.Checkpoint = codes "l"
-class_of (glyphs.Stem again) = codes "k"
-class_of (glyphs.Head released) = if released then codes "l" else codes "v"
-class_of glyphs.End = codes "k"
-class_of glyphs.Dot = codes "l"
-class_of glyphs.Refused = codes "h"
-class_of (glyphs.Flush from) = codes "i"
-class_of glyphs.Failure = codes "f"
-class_of glyphs.Join = codes "k"
-class_of glyphs.Back = codes "l"
-class_of glyphs.GoesOn = codes "v"
-class_of glyphs.Released = codes "l"
+-- how a mark is drawn: its class, how far left of its place and how far up from its lane its path begins, and the path from there on
+pub record GlyphLook : Type 0 where
+  pub class : List ℕ
+  pub left : ℕ
+  pub up : ℕ
+  pub path : List ℕ
 
--- how far left of its place the path of a mark begins
-abbrev pub left_of : Glyph → ℕ
-left_of (glyphs.Head released) = 4
-left_of glyphs.Failure = 6
-left_of glyphs.Back = 4
-left_of glyphs.GoesOn = 4
-left_of glyphs.Released = 4
-left_of _ = 0
-
--- how far above its lane
-abbrev pub above_of : Glyph → ℕ
-above_of (glyphs.Head released) = 16
-above_of glyphs.End = 7
-above_of glyphs.Refused = 5
-above_of glyphs.Failure = 6
-above_of glyphs.Join = 6
-above_of glyphs.Back = 6
-above_of glyphs.GoesOn = 6
-above_of glyphs.Released = 16
-above_of _ = 0
-
--- the path of a mark from there on
-abbrev pub path_of : Glyph → List ℕ
-path_of (glyphs.Stem again) = if again then codes "v-16m-4 0h8" else codes "v-16"
-path_of (glyphs.Head released) = codes "l4-6 4 6z"
-path_of glyphs.End = codes "v14"
-path_of glyphs.Refused = codes "l5 5-5 5-5-5z"
-path_of glyphs.Failure = codes "l12 12m0-12l-12 12"
-path_of glyphs.Join = codes "v12"
-path_of glyphs.Back = codes "l10 6-10 6z"
-path_of glyphs.GoesOn = codes "l10 6-10 6z"
-path_of glyphs.Released = codes "l4-6 4 6z"
-path_of _ = []
+abbrev pub look_of : Glyph → GlyphLook
+look_of (glyphs.Receipt stored) = record { class = if stored then codes "l" else codes "v"; left = 0; up = 0; path = [] }
+look_of glyphs.Checkpoint = record { class = codes "l"; left = 0; up = 0; path = [] }
+look_of (glyphs.Stem again) = record { class = codes "k"; left = 0; up = 0; path = if again then codes "v-16m-4 0h8" else codes "v-16" }
+look_of (glyphs.Head released) = record { class = if released then codes "l" else codes "v"; left = 4; up = 16; path = codes "l4-6 4 6z" }
+look_of glyphs.End = record { class = codes "k"; left = 0; up = 7; path = codes "v14" }
+look_of glyphs.Dot = record { class = codes "l"; left = 0; up = 0; path = [] }
+look_of glyphs.Refused = record { class = codes "h"; left = 0; up = 5; path = codes "l5 5-5 5-5-5z" }
+look_of (glyphs.Flush from) = record { class = codes "i"; left = 0; up = 0; path = [] }
+look_of glyphs.Failure = record { class = codes "f"; left = 6; up = 6; path = codes "l12 12m0-12l-12 12" }
+look_of glyphs.Join = record { class = codes "k"; left = 0; up = 6; path = codes "v12" }
+look_of glyphs.Back = record { class = codes "l"; left = 4; up = 6; path = codes "l10 6-10 6z" }
+look_of glyphs.GoesOn = record { class = codes "v"; left = 4; up = 6; path = codes "l10 6-10 6z" }
+look_of glyphs.Released = record { class = codes "l"; left = 4; up = 16; path = codes "l4-6 4 6z" }
 
 -- a circle of this radius, a square, the line of a flush, and any other mark
 unfoldable pub circle_text : Shape → ℕ → List ℕ
 circle_text shape radius =
-    codes "<circle class=\"" ++ class_of shape.glyph ++ cut_letter shape.cut ++ codes "\" cx=\"" ++ decimal shape.at.x
+    codes "<circle class=\"" ++ (look_of shape.glyph).class ++ cut_letter shape.cut ++ codes "\" cx=\"" ++ decimal shape.at.x
     ++ codes "\" cy=\"" ++ decimal (height shape.at.lane) ++ codes "\" r=\"" ++ decimal radius ++ codes "\">"
     ++ title_text shape.title ++ codes "</circle>\n"
 
@@ -196,9 +154,10 @@ path_end _ title = codes ">" ++ title_text title ++ codes "</path>\n"
 
 unfoldable pub path_text : Shape → List ℕ
 path_text shape =
-    codes "<path class=\"" ++ class_of shape.glyph ++ cut_letter shape.cut
-    ++ codes "\" d=\"M" ++ decimal (shape.at.x - left_of shape.glyph) ++ 32 ∷ decimal (height shape.at.lane - above_of shape.glyph)
-    ++ path_of shape.glyph ++ codes "\"" ++ path_end shape.glyph shape.title
+    let look = look_of shape.glyph in
+    codes "<path class=\"" ++ look.class ++ cut_letter shape.cut
+    ++ codes "\" d=\"M" ++ decimal (shape.at.x - look.left) ++ 32 ∷ decimal (height shape.at.lane - look.up)
+    ++ look.path ++ codes "\"" ++ path_end shape.glyph shape.title
 
 -- a mark, by its form
 abbrev pub glyph_text : Glyph → Shape → List ℕ

@@ -1,6 +1,6 @@
 -- The words of a picture.
 use Rattle.std.specs.Prelude.{ℕ, ◌==◌, ◌-◌, nat_le, if◌then◌else◌, List, [], ◌∷◌, ◌++◌, Option, None, Some, slice_get, take, codes, decimal}
-use Rattle.std.specs.Option.{option_map}
+use Rattle.std.specs.Option.{option_map, unwrap_or}
 use Rattle.hex.specs.Hex.{encode_lower}
 use Rattle.om_scripts.specs.Programs.{Cluster, program_name}
 use Rattle.om_svg.specs.AnswerText.{recovery_text, why_word}
@@ -13,11 +13,6 @@ use Rattle.om_sheet.specs.declared.sheet.Word.{Word}
 use Rattle.om_sheet.specs.declared.step.Label.{Label}
 use Rattle.om_sheet.specs.declared.step.EndState.{EndState}
 use Rattle.om_sheet.specs.declared.step.TheConstants.{LABEL_BYTES}
-
--- a name, if there is one
-abbrev pub name_text : Option (List ℕ) → List ℕ
-name_text None = []
-name_text (Some name) = name
 
 -- the first bytes of an output in hexadecimal, and a mark where it has none
 abbrev pub bytes_text : Label → List ℕ
@@ -47,8 +42,8 @@ content_text cluster (contents.Output label more) = label_text label more
 content_text cluster (contents.End status) = status_text status
 content_text cluster (contents.Why answer) = why_word answer
 content_text cluster (contents.EndState end_state) = end_state_text end_state
-content_text cluster (contents.Name p) = name_text (option_map (λ e. e.0) (slice_get cluster.processes p))
-content_text cluster (contents.Program p) = name_text (option_map (λ e. program_name cluster e.1) (slice_get cluster.processes p))
+content_text cluster (contents.Name p) = unwrap_or (option_map (λ e. e.0) (slice_get cluster.processes p)) []
+content_text cluster (contents.Program p) = unwrap_or (option_map (λ e. program_name cluster e.1) (slice_get cluster.processes p)) []
 content_text cluster contents.Line = codes "line"
 
 abbrev pub style_text : Style → List ℕ

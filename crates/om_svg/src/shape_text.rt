@@ -1,9 +1,9 @@
 //! The text of the marks, and of what stands behind them.
 
-ghost use Rattle.std.specs.Prelude.{◌≡◌, ◌++◌, codes, OnOk, string_bytes};
+ghost use Rattle.std.specs.Prelude.{◌≡◌, ◌++◌, codes, if◌then◌else◌, OnOk, string_bytes};
 ghost use Rattle.std.specs.List.{flat_map};
-ghost use Rattle.om_svg.specs.ShapeText.{above_of, arrow_text, band_text, changed_text, circle_text, class_of, line_kind_class, crossed_title, crossing_text, cut_letter, flush_text, height, left_of, message_class, message_start, detail_text, numbers_text, path_end, path_of, path_text, place_text, segment_text, shape_text, square_text, start_of, straight_text, segment_class, stub_path, title_text, told_text, turning_text, message_line_text};
-ghost use Rattle.om_svg.specs.steps.Marks.{band_at, band_end, band_left, band_start, band_width, circle_at, circle_end, circle_middle, circle_start, circle_x, circle_y, line_kind_text, flush_at, flush_end, flush_start, line_text, path_at, path_middle, path_start, path_tail, square_at, square_class, square_end, square_start, square_x, turning_at, turning_end, turning_start};
+ghost use Rattle.om_svg.specs.ShapeText.{arrow_text, band_text, changed_text, circle_text, line_kind_class, crossed_title, crossing_text, cut_letter, flush_text, height, look_of, message_start, detail_text, numbers_text, path_end, path_text, place_text, segment_text, shape_text, square_text, start_of, segment_class, title_text, told_text, message_line_text};
+ghost use Rattle.om_svg.specs.steps.Marks.{band_at, band_end, band_left, band_start, band_width, circle_at, circle_end, circle_middle, circle_start, circle_x, circle_y, line_kind_text, flush_at, flush_end, flush_start, line_text, path_at, path_middle, path_start, path_tail, square_at, square_class, square_end, square_start, square_x, straight_parts, turning_at, turning_end, turning_parts, turning_start};
 ghost use Rattle.om_sheet.specs.declared.sheet.MessageLine.{MessageLine};
 
 use crate::answer_text::push_recovery;
@@ -112,7 +112,6 @@ pub fn push_segment(text: &mut String, segment: LaneSegment) -> Result<(), Alloc
 }
 
 // Writes the line from a sending to a receipt.
-#[tactic(auto, unfolding(crate::specs::ShapeText::arrow_text))]
 fn push_arrow(text: &mut String, from: Spot, to: Spot) -> Result<(), AllocError>
     ensures { OnOk result (string_bytes text.new ≡ string_bytes text.old ++ arrow_text from to) }
 {
@@ -123,7 +122,7 @@ fn push_arrow(text: &mut String, from: Spot, to: Spot) -> Result<(), AllocError>
 }
 
 fn push_turning(text: &mut String, from: Spot, to: Spot) -> Result<(), AllocError>
-    ensures { OnOk result (string_bytes text.new ≡ string_bytes text.old ++ turning_text from to) }
+    ensures { OnOk result (string_bytes text.new ≡ string_bytes text.old ++ turning_parts from to) }
 {
     let turn = u64::from(to.x).saturating_sub(8);
     push_turning_at(text, from.x, height(from.lane), turn)
@@ -151,8 +150,9 @@ fn push_turning_end(text: &mut String, turn: u64) -> Result<(), AllocError>
     write!(text, "q0-15 8-15H{turn}q8 0 8 15\"/>\n")
 }
 
+#[tactic(auto, unfolding(crate::specs::steps::Marks::straight_parts))]
 fn push_straight(text: &mut String, from: Spot, to: Spot) -> Result<(), AllocError>
-    ensures { OnOk result (string_bytes text.new ≡ string_bytes text.old ++ straight_text from to) }
+    ensures { OnOk result (string_bytes text.new ≡ string_bytes text.old ++ straight_parts from to) }
 {
     let x = from.x;
     let y = height(from.lane);
@@ -162,7 +162,7 @@ fn push_straight(text: &mut String, from: Spot, to: Spot) -> Result<(), AllocErr
 }
 
 fn message_class(again: bool) -> &'static str
-    ensures { result.now ≡ message_class again }
+    ensures { result.now ≡ (if again then codes "n" else codes "m") }
 {
     if again { "n" } else { "m" }
 }
@@ -221,7 +221,7 @@ fn push_held(text: &mut String, from: u32, to: Spot) -> Result<(), AllocError>
 }
 
 fn stub_path(below: bool) -> &'static str
-    ensures { result.now ≡ stub_path below }
+    ensures { result.now ≡ (if below then codes "l8 11m-3 2l6-4" else codes "l8-11m-3-2l6 4") }
 {
     if below {
         "l8 11m-3 2l6-4"
@@ -319,7 +319,7 @@ fn push_place(text: &mut String, spot: Spot) -> Result<(), AllocError>
 
 // Returns the class of a mark.
 fn class_of(glyph: Glyph) -> &'static str
-    ensures { result.now ≡ class_of glyph }
+    ensures { result.now ≡ (look_of glyph).class }
 {
     match glyph {
         Glyph::Receipt { stored: true }
@@ -338,7 +338,7 @@ fn class_of(glyph: Glyph) -> &'static str
 
 // Returns how far left of its place the path of a mark begins.
 fn left_of(glyph: Glyph) -> u64
-    ensures { result ≡ left_of glyph }
+    ensures { result ≡ (look_of glyph).left }
 {
     match glyph {
         Glyph::Failure => 6,
@@ -349,7 +349,7 @@ fn left_of(glyph: Glyph) -> u64
 
 // Returns how far above its lane.
 fn above_of(glyph: Glyph) -> u64
-    ensures { result ≡ above_of glyph }
+    ensures { result ≡ (look_of glyph).up }
 {
     match glyph {
         Glyph::Head { .. } | Glyph::Released => 16,
@@ -362,7 +362,7 @@ fn above_of(glyph: Glyph) -> u64
 
 // Returns the path of a mark, from there on.
 fn path_of(glyph: Glyph) -> &'static str
-    ensures { result.now ≡ path_of glyph }
+    ensures { result.now ≡ (look_of glyph).path }
 {
     match glyph {
         Glyph::Stem { again: true } => "v-16m-4 0h8",

@@ -1,8 +1,8 @@
 //! The text of words.
 
-ghost use Rattle.std.specs.Prelude.{◌≡◌, ◌++◌, OnOk, string_bytes};
-ghost use Rattle.std.specs.Option.{option_map};
-ghost use Rattle.om_svg.specs.WordText.{bytes_text, label_text, name_text, end_state_text, style_text, content_text, sheet_word_text};
+ghost use Rattle.std.specs.Prelude.{◌≡◌, [], ◌++◌, OnOk, string_bytes};
+ghost use Rattle.std.specs.Option.{option_map, unwrap_or};
+ghost use Rattle.om_svg.specs.WordText.{bytes_text, label_text, end_state_text, style_text, content_text, sheet_word_text};
 
 use crate::answer_text::{push_recovery, why_word};
 use om_event_text::push_status;
@@ -66,7 +66,7 @@ fn push_what(
 
 // Writes a name, if there is one.
 fn push_name(text: &mut String, name: Option<&str>) -> Result<(), AllocError>
-    ensures { OnOk result (string_bytes text.new ≡ string_bytes text.old ++ name_text (option_map (λ name. name.now) name.entry)) }
+    ensures { OnOk result (string_bytes text.new ≡ string_bytes text.old ++ unwrap_or (option_map (λ name. name.now) name.entry) []) }
 {
     match name {
         Some(name) => text.push_str(name),

@@ -6,7 +6,7 @@ use Rattle.om_sheet.specs.declared.sheet.LineKind.{LineKind}
 use Rattle.om_sheet.specs.declared.sheet.Crossing.{Crossing}
 use Rattle.om_sheet.specs.declared.sheet.Shape.{Shape}
 use Rattle.om_sheet.specs.declared.sheet.Spot.{Spot}
-use Rattle.om_svg.specs.ShapeText.{above_of, class_of, line_kind_class, crossed_title, cut_letter, height, left_of, path_end, path_of, place_text, start_of, title_text}
+use Rattle.om_svg.specs.ShapeText.{crossed_title, cut_letter, height, line_kind_class, look_of, path_end, place_text, start_of, title_text}
 
 -- a rectangle of this left side, width and height
 unfoldable pub band_left : ℕ → List ℕ
@@ -40,6 +40,11 @@ turning_at x y turn = turning_start x y ++ turning_end turn
 unfoldable pub turning_parts : Spot → Spot → List ℕ
 turning_parts from to = turning_at from.x (height from.lane) (to.x - 8)
 
+unfoldable pub straight_parts : Spot → Spot → List ℕ
+straight_parts from to =
+    codes "M" ++ decimal from.x ++ 32 ∷ decimal (height from.lane) ++ codes "L" ++ decimal to.x ++ 32 ∷ decimal (height to.lane)
+    ++ codes "\"/>\n"
+
 unfoldable pub circle_start : List ℕ → List ℕ → List ℕ
 circle_start class cut = codes "<circle class=\"" ++ class ++ cut
 
@@ -60,7 +65,7 @@ circle_at class cut x y radius = circle_start class cut ++ circle_middle x y ++ 
 
 unfoldable pub circle_parts : Shape → ℕ → List ℕ
 circle_parts shape radius =
-    circle_at (class_of shape.glyph) (cut_letter shape.cut) shape.at.x (height shape.at.lane) radius ++ title_text shape.title
+    circle_at (look_of shape.glyph).class (cut_letter shape.cut) shape.at.x (height shape.at.lane) radius ++ title_text shape.title
     ++ codes "</circle>\n"
 
 unfoldable pub square_class : List ℕ → List ℕ
@@ -109,8 +114,8 @@ path_at class cut x y path = path_start class cut ++ path_middle x y ++ path_tai
 
 unfoldable pub path_parts : Shape → List ℕ
 path_parts shape =
-    path_at (class_of shape.glyph) (cut_letter shape.cut) (shape.at.x - left_of shape.glyph) (height shape.at.lane - above_of shape.glyph)
-    (path_of shape.glyph) ++ path_end shape.glyph shape.title
+    path_at (look_of shape.glyph).class (cut_letter shape.cut) (shape.at.x - (look_of shape.glyph).left)
+    (height shape.at.lane - (look_of shape.glyph).up) (look_of shape.glyph).path ++ path_end shape.glyph shape.title
 
 unfoldable pub line_kind_text : LineKind → List ℕ
 line_kind_text kind = codes "v14\">" ++ crossed_title kind ++ codes "</path>\n"
