@@ -1,5 +1,5 @@
 -- Which marks stand for which events.
-use Rattle.std.specs.Prelude.{◌≡◌, ℕ, zero, suc, ◌==◌, Bool, false, if◌then◌else◌, nat_le, nat_lt, List, [], ◌∷◌, ◌++◌, Option, None, Some}
+use Rattle.std.specs.Prelude.{◌≡◌, ℕ, zero, suc, ◌==◌, Bool, false, if◌then◌else◌, is_some, nat_le, nat_lt, List, [], ◌∷◌, ◌++◌, Option, None, Some}
 use Rattle.std.specs.List.{flat_map, list_any, sum_by}
 use Rattle.om_picture.specs.Fates.{EventAt, EventRow, Fate, fate_of, has_ended, has_loose, interval_behind, progress_behind}
 use Rattle.om_picture.specs.Held.{may_wait, releases}
@@ -16,9 +16,8 @@ use Rattle.om_sheet.specs.declared.shown.Shown.TheVariants as shows
 abbrev pub title_entry : Title → Spot → EventAt
 title_entry title at = record { line = title.line; event = title.event; answer = title.answer; at = at }
 
--- what a form says of its event: the end of a program no more than another run, and a flush not where it begins
+-- what is told of a form: all but where a flush begins
 abbrev pub form_of : Glyph → Glyph
-form_of glyphs.End = glyphs.Dot
 form_of (glyphs.Flush from) = glyphs.Flush 0
 form_of glyph = glyph
 
@@ -57,9 +56,10 @@ output_marks made fresh fate entry =
     else mark_of (glyphs.Stem (fresh == 0)) fate.cut entry
     ++ (if fresh == 0 then [] else mark_of (glyphs.Head fate.covered) fate.cut entry)
 
--- the marks of an event that waits for its fate: a run, messages that were sent again, a receipt or a checkpoint
+-- the marks of an event that waits for its fate: a run, with the end of its program, a resend, a receipt or a checkpoint
 abbrev pub fated_marks : Shown → ℕ → Fate → EventAt → List EventMark
-fated_marks (shows.Run sent made ends) fresh fate entry = output_marks made fresh fate entry ++ mark_of glyphs.Dot fate.cut entry
+fated_marks (shows.Run sent made ends) fresh fate entry =
+    output_marks made fresh fate entry ++ mark_of (if is_some ends then glyphs.End else glyphs.Dot) fate.cut entry
 fated_marks (shows.Receipt frame interval) fresh fate entry = mark_of (glyphs.Receipt fate.stored) fate.cut entry
 fated_marks shows.Checkpoint fresh fate entry = mark_of glyphs.Checkpoint fate.cut entry
 fated_marks _ fresh fate entry = mark_of glyphs.Dot fate.cut entry

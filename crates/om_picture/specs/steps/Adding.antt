@@ -214,6 +214,7 @@ fate_in fate = record { cut = fate.cut; covered = fate.covered; stored = fate.st
 abbrev pub form_late : Shown → Fate → Glyph
 form_late (shows.Receipt frame interval) fate = glyphs.Receipt fate.stored
 form_late shows.Checkpoint fate = glyphs.Checkpoint
+form_late (shows.Run sent made ends) fate = if is_some ends then glyphs.End else glyphs.Dot
 form_late _ fate = glyphs.Dot
 
 abbrev pub made_by : Shown → ℕ
