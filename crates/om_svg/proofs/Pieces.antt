@@ -81,7 +81,7 @@ band_is bottom band =
     band_grouped (codes "<rect class=\"b\" x=\"") (decimal band.left) (codes "\" y=\"74\" width=\"") (decimal (band.right - band.left))
     (codes "\" height=\"") (decimal (bottom - 74)) (codes "\"/>\n")
 
--- the part of an arrow from where it begins on, by whether it stays on its lane
+-- an arrow, by whether it stays on its lane
 abbrev arrow_by : Bool → Spot → Spot → List ℕ
 arrow_by same from to =
     codes "M" ++ decimal from.x ++ 32 ∷ decimal (height from.lane)
