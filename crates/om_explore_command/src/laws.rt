@@ -3,7 +3,8 @@
 ghost use Rattle.std.specs.Prelude.{◌≡◌, ℕ, List, IsTrue, map};
 ghost use Rattle.std.specs.List.{IsAmong};
 ghost use Rattle.om_scripts.specs.Programs.{Cluster};
-ghost use Rattle.om_run_commands.specs.Check.{IsFailureFreeText};
+ghost use Rattle.om_commands.specs.declared.bytes_text.BytesForm.TheVariants.{Hex};
+ghost use Rattle.om_run_commands.specs.Check.{IsFailureFreeIn};
 ghost use Rattle.om_explore_command.specs.Explorations.{IsExploration};
 ghost use Rattle.om_explore_command.specs.Tallies.{text_of};
 ghost use Rattle.om_explore_command.specs.declared.exploration.Exploration.{Exploration};
@@ -12,5 +13,5 @@ ghost use Rattle.om_explore_command.specs.declared.exploration.Exploration.{Expl
 /// and so is what `run --check` writes of a run of threads, whatever failed in it.
 pub fn every_text()
     ensures { (cluster : Cluster) (exploration : Exploration) (text : List ℕ) → IsExploration cluster exploration → IsTrue exploration.is_all
-        → IsFailureFreeText cluster text → IsAmong (map text_of exploration.found.items) text }
+        → IsFailureFreeIn Hex cluster text → IsAmong (map text_of exploration.found.items) text }
 {}

@@ -22,8 +22,8 @@ use Rattle.om_world.specs.World.{WorldState}
 use Rattle.om_world.specs.declared.entry.Entry.{Entry}
 use Rattle.om_run_commands.specs.ClusterScript.{ClusterFile, cluster_file_line, no_settings}
 use Rattle.om_commands.specs.Command.{IsScript}
-use Rattle.om_run_commands.specs.Check.{IsErrorOfCheckedRun, IsFailureFreeIn, IsTextIn}
-use Rattle.om_run_commands.specs.steps.Scripts.{IsErrorOfCheckedScript}
+use Rattle.om_run_commands.specs.Check.{IsFailureFreeIn, IsTextIn}
+use Rattle.om_run_commands.specs.steps.Scripts.{IsErrorOfCheckedRun, IsErrorOfCheckedScript}
 use Rattle.om_run_commands.specs.RunText.{TellsEnds, ends_text, run_text_in}
 use Rattle.om_run_commands.specs.Run.{outputs_of}
 use Rattle.om_run_commands.specs.steps.Lines.{released_text}

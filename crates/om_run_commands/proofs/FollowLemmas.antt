@@ -20,7 +20,7 @@ use Rattle.om_run_commands.proofs.RunLemmas.{ok_at}
 use Rattle.om_run_commands.specs.ClusterScript.{ClusterFile, cluster_file_line, no_settings}
 use Rattle.om_commands.specs.Command.{IsErrorOf, IsScript}
 use Rattle.om_run_commands.specs.steps.Errors.{error_of_run}
-use Rattle.om_run_commands.specs.Follow.{IsPart, IsPartOf, told_text}
+use Rattle.om_run_commands.specs.Follow.{IsPartOf, told_text}
 use Rattle.om_run_commands.specs.steps.Modes.{IsFollowedTo}
 use Rattle.om_run_commands.specs.steps.Lines.{told_line}
 use Rattle.om_run_commands.specs.Run.{IsByKind}
@@ -91,7 +91,7 @@ partly_of_fault (Run f) error part none unwanted run is = subst (λ e. IsByKind 
 pub part_told : (form : BytesForm) (over_clean : Type 0) (script : ClusterFile) (cluster : Cluster) (images : List Image) (same_after : Type 0) (a b : Option (List ℕ)) → cluster ≡ script.cluster
     → map program_of images ≡ programs_of script.cluster
     → (told : List Told) × (same_after × Appends a b (told_text form cluster told)) × AreInOrder told × (over_clean → AreToldMade (map program_of images) (length images) told)
-    → IsPartOf form over_clean script a b
+    → IsPartOf (told_text form script.cluster) over_clean script a b
 part_told form over_clean script cluster images same_after a b same programs is = (
   is.0,
   is.2,
@@ -106,11 +106,11 @@ pub part_of_run : (form : BytesForm) (over_clean : Type 0) (script : ClusterFile
     → (fault ≡ Unwanted → (error ≡ errors.NoMemory) ⊎ (error ≡ errors.CannotWrite)) → ((f : RunFault) → fault ≡ Run f → error ≡ error_of_run f)
     → IfErr r (λ fault. fault ≢ Unwanted → (told : List Told) × (same_after × Appends a b (told_text form cluster told)) × AreInOrder told
     × (over_clean → AreToldMade (map program_of images) (length images) told))
-    → IsByKind error (IsPartOf form over_clean script a b) none
+    → IsByKind error (IsPartOf (told_text form script.cluster) over_clean script a b) none
 part_of_run form over_clean script cluster images r fault error same_after a b none is same programs unwanted run partly =
     let told = subst (λ x. IfErr x (λ fault. fault ≢ Unwanted → (told : List Told) × (same_after × Appends a b (told_text form cluster told)) × AreInOrder told
     × (over_clean → AreToldMade (map program_of images) (length images) told))) is partly in
-    partly_of_fault fault error (IsPartOf form over_clean script a b) none unwanted run
+    partly_of_fault fault error (IsPartOf (told_text form script.cluster) over_clean script a b) none unwanted run
     (λ wanted. part_told form over_clean script cluster images same_after a b same programs (told wanted))
 
 -- the other two errors may come of any script

@@ -13,11 +13,11 @@ use Rattle.om_commands.specs.declared.error.CommandError.TheVariants as errors
 use Rattle.om_scripts.specs.Named.{place_of}
 use Rattle.om_scripts.specs.Programs.{Cluster}
 use Rattle.om_run_commands.specs.ClusterScript.{ClusterFile, cluster_file_line, no_settings}
-use Rattle.om_run_commands.specs.Modes.{IsErrorIn, IsErrorOfContext, IsFollowing, IsPartIn, IsRunIn}
+use Rattle.om_run_commands.specs.Modes.{IsAnswerIn, IsErrorIn, IsErrorOfContext, IsFollowing, IsPartIn, IsPartOfScriptIn, IsRunIn}
 use Rattle.om_run_commands.specs.declared.mode.RunMode.{RunMode}
 use Rattle.om_run_commands.specs.declared.mode.RunMode.TheVariants as modes
 use Rattle.om_run_commands.specs.Run.{IsByKind}
-use Rattle.om_run_commands.specs.steps.Modes.{IsAnswerIn, IsErrorOfScriptIn, IsPartOfScriptIn, LacksIn}
+use Rattle.om_run_commands.specs.steps.Modes.{IsErrorOfScriptIn, LacksIn}
 use Rattle.om_run_commands.proofs.CheckLemmas.{of_checked}
 use Rattle.om_run_commands.proofs.FollowLemmas.{partly_unread}
 use Rattle.om_run_commands.proofs.RawLemmas.{by_kind}
@@ -27,18 +27,7 @@ use Rattle.om_run_commands.proofs.RunLemmas.{of_raw, of_script}
 of_answer : (mode : RunMode) (form : BytesForm) (over_clean : Type 0) (statuses : List Status) (bytes : List ℕ) (script : ClusterFile) (text : List ℕ)
     → IsScript cluster_file_line no_settings bytes script
     → IsAnswerIn mode form over_clean statuses script text → IsRunIn mode form over_clean statuses bytes text
-of_answer modes.Plain form over_clean statuses bytes script text read is =
-    (record { script = script; is_script = read; answer = is.0 }, record { script = script; is_script = read; answer = is.1 })
-of_answer modes.Check form over_clean statuses bytes script text read is =
-    (record { script = script; is_script = read; answer = is.0 }, record { script = script; is_script = read; answer = is.1 })
-of_answer modes.Witness form over_clean statuses bytes script text read is =
-    (record { script = script; is_script = read; answer = is.0 }, record { script = script; is_script = read; answer = is.1 })
-of_answer modes.Record form over_clean statuses bytes script text read is =
-    (record { script = script; is_script = read; answer = is.0 }, record { script = script; is_script = read; answer = is.1 })
-of_answer modes.Follow form over_clean statuses bytes script text read is =
-    (record { script = script; is_script = read; answer = is.0 }, record { script = script; is_script = read; answer = is.1 })
-of_answer (modes.Raw name) form over_clean statuses bytes script text read is = record { script = script; is_script = read; answer = is }
-of_answer (modes.FollowRaw name) form over_clean statuses bytes script text read is = record { script = script; is_script = read; answer = is }
+of_answer mode form over_clean statuses bytes script text read is = record { script = script; is_script = read; answer = is }
 
 pub text_of_answer : (mode : RunMode) (form : BytesForm) (over_clean : Type 0) (remaining : Option (List ℕ)) (start script : ClusterFile)
     (r : Result (Vec Status Global) CommandError)
@@ -169,13 +158,7 @@ partly_with_others mode form over_clean script next (Err e) a b none is partly =
 -- ---- a part of the answer to a script is one of the answer to its bytes
 part_of_bytes : (mode : RunMode) (form : BytesForm) (over_clean : Type 0) (bytes : List ℕ) (script : ClusterFile) (a b : Option (List ℕ))
     → IsScript cluster_file_line no_settings bytes script → IsPartOfScriptIn mode form over_clean script a b → IsPartIn mode form over_clean bytes a b
-part_of_bytes modes.Plain form over_clean bytes script a b read never = absurd never
-part_of_bytes modes.Check form over_clean bytes script a b read never = absurd never
-part_of_bytes modes.Witness form over_clean bytes script a b read never = absurd never
-part_of_bytes modes.Record form over_clean bytes script a b read never = absurd never
-part_of_bytes modes.Follow form over_clean bytes script a b read part = record { script = script; is_script = read; part = part }
-part_of_bytes (modes.Raw name) form over_clean bytes script a b read never = absurd never
-part_of_bytes (modes.FollowRaw name) form over_clean bytes script a b read part = record { script = script; is_script = read; part = part }
+part_of_bytes mode form over_clean bytes script a b read part = (script, read, part)
 
 pub partly_of_answer : {A : Type 0} (mode : RunMode) (form : BytesForm) (over_clean : Type 0) (remaining : Option (List ℕ)) (start script : ClusterFile)
     (r : Result A CommandError) (a b : Option (List ℕ)) (none : Type 0) → start ≡ no_settings → IfSome remaining (λ bytes. IsScript cluster_file_line start bytes script)

@@ -23,7 +23,7 @@ use Rattle.om_report.specs.declared.fault.RunFault.{RunFault}
 use Rattle.om_commands.specs.declared.error.CommandError.{CommandError}
 use Rattle.om_commands.specs.declared.error.CommandError.TheVariants as errors
 use Rattle.om_run_commands.specs.ClusterScript.{ClusterFile}
-use Rattle.om_run_commands.specs.Follow.{IsBytesAnswer, IsFollowedRawAnswer, IsPartOfBytes, IsRawPartOf, bytes_told}
+use Rattle.om_run_commands.specs.Follow.{IsBytesAnswer, IsFollowedRawAnswer, IsPartOf, IsRawPartOf, bytes_told}
 use Rattle.om_run_commands.specs.Run.{IsByKind}
 use Rattle.om_run_commands.specs.steps.Errors.{error_of_run}
 use Rattle.om_run_commands.specs.steps.Scripts.{IsErrorOfRawScript, IsErrorOfScript}
@@ -83,7 +83,7 @@ bytes_of_report p over_clean script images r report a b same_after is programs t
 part_told : (p : ℕ) (over_clean : Type 0) (script : ClusterFile) (images : List Image) (same_after : Type 0) (a b : Option (List ℕ))
     → map program_of images ≡ programs_of script.cluster
     → (told : List Told) × (same_after × Appends a b (bytes_told p told)) × AreInOrder told × (over_clean → AreToldMade (map program_of images) (length images) told)
-    → IsPartOfBytes p over_clean script a b
+    → IsPartOf (bytes_told p) over_clean script a b
 part_told p over_clean script images same_after a b programs is = (
   is.0,
   is.2,
@@ -97,11 +97,11 @@ pub part_of_bytes : (p : ℕ) (over_clean : Type 0) (script : ClusterFile) (imag
     → (fault ≡ Unwanted → (error ≡ errors.NoMemory) ⊎ (error ≡ errors.CannotWrite)) → ((f : RunFault) → fault ≡ Run f → error ≡ error_of_run f)
     → IfErr r (λ fault. fault ≢ Unwanted → (told : List Told) × (same_after × Appends a b (bytes_told p told)) × AreInOrder told
     × (over_clean → AreToldMade (map program_of images) (length images) told))
-    → IsByKind error (IsPartOfBytes p over_clean script a b) none
+    → IsByKind error (IsPartOf (bytes_told p) over_clean script a b) none
 part_of_bytes p over_clean script images r fault error same_after a b none is programs unwanted run partly =
     let told = subst (λ x. IfErr x (λ fault. fault ≢ Unwanted → (told : List Told) × (same_after × Appends a b (bytes_told p told)) × AreInOrder told
     × (over_clean → AreToldMade (map program_of images) (length images) told))) is partly in
-    partly_of_fault fault error (IsPartOfBytes p over_clean script a b) none unwanted run
+    partly_of_fault fault error (IsPartOf (bytes_told p) over_clean script a b) none unwanted run
     (λ wanted. part_told p over_clean script images same_after a b programs (told wanted))
 
 -- what holds of a run that came to no end holds in other words
@@ -136,10 +136,10 @@ named_answer name p over_clean script (Err e) statuses_of a b at is = tt
 
 pub named_part : {A : Type 0} (name : List ℕ) (p : ℕ) (over_clean : Type 0) (script : ClusterFile) (r : Result A CommandError) (a b : Option (List ℕ)) (none : Type 0)
     → place_of name script.cluster.processes ≡ Some p
-    → IfErr r (λ error. IsByKind error (IsPartOfBytes p over_clean script a b) none) → IfErr r (λ error. IsByKind error (IsRawPartOf name over_clean script a b) none)
+    → IfErr r (λ error. IsByKind error (IsPartOf (bytes_told p) over_clean script a b) none) → IfErr r (λ error. IsByKind error (IsRawPartOf name over_clean script a b) none)
 named_part name p over_clean script (Ok x) a b none at is = tt
 named_part name p over_clean script (Err e) a b none at is =
-    by_kind e (IsPartOfBytes p over_clean script a b) (IsRawPartOf name over_clean script a b) none (λ part. (p, at, part)) is
+    by_kind e (IsPartOf (bytes_told p) over_clean script a b) (IsRawPartOf name over_clean script a b) none (λ part. (p, at, part)) is
 
 raw_error : (name : List ℕ) (script : ClusterFile) (error : CommandError) → IsErrorOfScript script error → IsErrorOfRawScript name script error
 raw_error name script errors.CannotWrite is = is

@@ -19,11 +19,11 @@ use Rattle.om_report.specs.declared.fault.RunFault.TheVariants as running
 use Rattle.om_run_commands.specs.steps.Errors.{error_of_run}
 use Rattle.om_run_commands.specs.ClusterScript.{ClusterFile, cluster_file_line, no_settings}
 use Rattle.om_commands.specs.Command.{IsScript}
-use Rattle.om_run_commands.specs.Run.{IsErrorOfRawRun, IsErrorOfRun, IsRawAnswer, outputs_of}
+use Rattle.om_run_commands.specs.Run.{IsErrorOfRun, IsRawAnswer, outputs_of}
 use Rattle.om_run_commands.specs.RunText.{ends_text, raw_text, run_text_in}
 use Rattle.om_run_commands.specs.steps.Lines.{released_text}
 use Rattle.om_run_commands.specs.steps.Modes.{IsToldAnswer}
-use Rattle.om_run_commands.specs.steps.Scripts.{IsErrorOfRawScript, IsErrorOfScript}
+use Rattle.om_run_commands.specs.steps.Scripts.{IsErrorOfRawRun, IsErrorOfRawScript, IsErrorOfScript}
 use Rattle.om_commands.specs.declared.bytes_text.BytesForm.{BytesForm}
 use Rattle.om_commands.specs.declared.error.CommandError.{CommandError}
 use Rattle.om_commands.specs.declared.error.CommandError.TheVariants as errors

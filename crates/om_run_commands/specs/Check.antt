@@ -5,14 +5,8 @@ use Rattle.om_manager.specs.Outputs.{HeldOutput}
 use Rattle.om_process.specs.declared.status.Status.{Status}
 use Rattle.om_scripts.specs.Programs.{Cluster, programs_of}
 use Rattle.om_world.specs.declared.entry.Entry.{Entry}
-use Rattle.om_commands.specs.Command.{AnswersScript}
-use Rattle.om_run_commands.specs.ClusterScript.{cluster_file_line, no_settings}
-use Rattle.om_run_commands.specs.Run.{IsClusterFile, IsErrorOfRun}
 use Rattle.om_run_commands.specs.RunText.{run_text_in}
 use Rattle.om_commands.specs.declared.bytes_text.BytesForm.{BytesForm}
-use Rattle.om_commands.specs.declared.bytes_text.BytesForm.TheVariants.{Hex}
-use Rattle.om_commands.specs.declared.error.CommandError.{CommandError}
-use Rattle.om_commands.specs.declared.error.CommandError.TheVariants as errors
 
 -- the text of the run without failures of these programs in which this was received, with the bytes of outputs in a form
 pub record IsTextIn (form : BytesForm) (cluster : Cluster) (live : List Entry) (text : List ℕ) : Type 0 where
@@ -24,15 +18,3 @@ pub record IsTextIn (form : BytesForm) (cluster : Cluster) (live : List Entry) (
 -- the text of some run without failures of these programs
 abbrev pub IsFailureFreeIn : BytesForm → Cluster → List ℕ → Type 0
 IsFailureFreeIn form cluster text = (live : List Entry) × IsTextIn form cluster live text
-
-abbrev pub IsFailureFreeText : Cluster → List ℕ → Type 0
-IsFailureFreeText = IsFailureFreeIn Hex
-
--- the answer to the cluster file that these bytes are
-abbrev pub IsCheckedRunIn : BytesForm → List ℕ → List ℕ → Type 0
-IsCheckedRunIn form bytes text = AnswersScript cluster_file_line no_settings (λ script. IsFailureFreeIn form script.cluster) bytes text
-
--- the errors are those of a run, and that it is unlike its check
-abbrev pub IsErrorOfCheckedRun : List ℕ → CommandError → Type 0
-IsErrorOfCheckedRun bytes errors.Unlike = IsClusterFile bytes
-IsErrorOfCheckedRun bytes error = IsErrorOfRun bytes error

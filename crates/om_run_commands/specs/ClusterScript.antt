@@ -21,13 +21,7 @@ pub record ClusterFile : Type 0 where
 
 -- nothing has been read
 abbrev pub no_settings : ClusterFile
-no_settings = record {
-  cluster = no_programs;
-  kills = [];
-  flush = DEFAULT_FLUSH;
-  checkpoint = DEFAULT_CHECKPOINT;
-  fuel = DEFAULT_FUEL;
-}
+no_settings = record { cluster = no_programs; kills = []; flush = DEFAULT_FLUSH; checkpoint = DEFAULT_CHECKPOINT; fuel = DEFAULT_FUEL }
 
 -- behind this no line of a program or a process may stand
 abbrev pub closed : ClusterFile → ClusterFile

@@ -8,8 +8,7 @@ use Rattle.om_scripts.specs.Named.{place_of}
 use Rattle.om_scripts.specs.Programs.{Cluster, programs_of}
 use Rattle.om_report.specs.Reports.{IsToldReport}
 use Rattle.om_runner.specs.Telling.{AreInOrder, AreToldMade, Told, of_process}
-use Rattle.om_commands.specs.Command.{AnswersScript, IsScript}
-use Rattle.om_run_commands.specs.ClusterScript.{ClusterFile, cluster_file_line, no_settings}
+use Rattle.om_run_commands.specs.ClusterScript.{ClusterFile}
 use Rattle.om_run_commands.specs.RunText.{ends_text}
 use Rattle.om_commands.specs.SimText.{name_at, output_line}
 use Rattle.om_commands.specs.declared.bytes_text.BytesForm.{BytesForm}
@@ -27,21 +26,11 @@ pub record IsFollowedAnswer (form : BytesForm) (over_clean : Type 0) (script : C
   pub is_told : IsToldReport over_clean (programs_of script.cluster) statuses front told
   pub is_text : text ≡ told_text form script.cluster told ++ ends_text script.cluster statuses
 
--- the answer to the cluster file that these bytes are
-abbrev pub IsFollowedRun : BytesForm → Type 0 → List ℕ → List ℕ → Type 0
-IsFollowedRun form over_clean bytes text = AnswersScript cluster_file_line no_settings (IsFollowedAnswer form over_clean) bytes text
-
--- what was written is a line for each of some outputs, those of a process in order of their numbers, from 0 without a gap; over
--- clean stores each is its program's
-abbrev pub IsPartOf : BytesForm → Type 0 → ClusterFile → Option (List ℕ) → Option (List ℕ) → Type 0
-IsPartOf form over_clean script before after = (told : List Told) × AreInOrder told
-    × (over_clean → AreToldMade (programs_of script.cluster) (length (programs_of script.cluster)) told) × Appends before after (told_text form script.cluster told)
-
--- so it is for the cluster file that these bytes are
-pub record IsPart (form : BytesForm) (over_clean : Type 0) (bytes : List ℕ) (before after : Option (List ℕ)) : Type 0 where
-  pub script : ClusterFile
-  pub is_script : IsScript cluster_file_line no_settings bytes script
-  pub part : IsPartOf form over_clean script before after
+-- what was written is this text of some outputs, those of a process in order of their numbers, from 0 without a gap; over clean stores
+-- each is its program's
+abbrev pub IsPartOf : (List Told → List ℕ) → Type 0 → ClusterFile → Option (List ℕ) → Option (List ℕ) → Type 0
+IsPartOf text_of over_clean script before after = (told : List Told) × AreInOrder told
+    × (over_clean → AreToldMade (programs_of script.cluster) (length (programs_of script.cluster)) told) × Appends before after (text_of told)
 
 -- the bytes of what was told of process p, one output behind the other
 abbrev pub bytes_told : ℕ → List Told → List ℕ
@@ -60,23 +49,7 @@ abbrev pub IsFollowedRawAnswer : List ℕ → Type 0 → List Status → Cluster
 IsFollowedRawAnswer name over_clean statuses script text =
     (p : ℕ) × (place_of name script.cluster.processes ≡ Some p) × IsBytesAnswer p over_clean statuses script text
 
--- the answer to the cluster file that these bytes are
-abbrev pub IsFollowedRawRun : List ℕ → Type 0 → List Status → List ℕ → List ℕ → Type 0
-IsFollowedRawRun name over_clean statuses bytes text =
-    AnswersScript cluster_file_line no_settings (IsFollowedRawAnswer name over_clean statuses) bytes text
-
--- what was written is the bytes of the first outputs of process p, one behind the other; over clean stores each is its program's
-abbrev pub IsPartOfBytes : ℕ → Type 0 → ClusterFile → Option (List ℕ) → Option (List ℕ) → Type 0
-IsPartOfBytes p over_clean script before after = (told : List Told) × AreInOrder told
-    × (over_clean → AreToldMade (programs_of script.cluster) (length (programs_of script.cluster)) told) × Appends before after (bytes_told p told)
-
--- what was written, as `IsPartOfBytes` has it, for the process of a name
+-- what was written is the bytes of the first outputs of the process of a name, one behind the other
 abbrev pub IsRawPartOf : List ℕ → Type 0 → ClusterFile → Option (List ℕ) → Option (List ℕ) → Type 0
 IsRawPartOf name over_clean script before after =
-    (p : ℕ) × (place_of name script.cluster.processes ≡ Some p) × IsPartOfBytes p over_clean script before after
-
--- so it is for the cluster file that these bytes are
-pub record IsRawPart (name : List ℕ) (over_clean : Type 0) (bytes : List ℕ) (before after : Option (List ℕ)) : Type 0 where
-  pub script : ClusterFile
-  pub is_script : IsScript cluster_file_line no_settings bytes script
-  pub part : IsRawPartOf name over_clean script before after
+    (p : ℕ) × (place_of name script.cluster.processes ≡ Some p) × IsPartOf (bytes_told p) over_clean script before after

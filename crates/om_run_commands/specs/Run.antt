@@ -5,9 +5,9 @@ use Rattle.om_scripts.specs.Named.{place_of}
 use Rattle.om_scripts.specs.Programs.{programs_of}
 use Rattle.om_report.specs.Reports.{IsReport}
 use Rattle.om_report.specs.declared.report.Report.{Report}
-use Rattle.om_commands.specs.Command.{AnswersScript, IsErrorOf, IsScript}
+use Rattle.om_commands.specs.Command.{IsErrorOf, IsScript}
 use Rattle.om_run_commands.specs.ClusterScript.{ClusterFile, cluster_file_line, no_settings}
-use Rattle.om_run_commands.specs.RunText.{TellsEnds, raw_text, run_text_in}
+use Rattle.om_run_commands.specs.RunText.{raw_text, run_text_in}
 use Rattle.om_process.specs.declared.status.Status.{Status}
 use Rattle.om_commands.specs.declared.bytes_text.BytesForm.{BytesForm}
 use Rattle.om_commands.specs.declared.error.CommandError.{CommandError}
@@ -22,24 +22,12 @@ abbrev pub IsRunAnswer : BytesForm → Type 0 → ClusterFile → List ℕ → T
 IsRunAnswer form over_clean script text = (report : Report) × IsReport over_clean (programs_of script.cluster) report
     × (text ≡ run_text_in form script.cluster (outputs_of report) report.statuses.items)
 
--- the answer to the cluster file that these bytes are
-abbrev pub IsRun : BytesForm → Type 0 → List ℕ → List ℕ → Type 0
-IsRun form over_clean bytes text = AnswersScript cluster_file_line no_settings (IsRunAnswer form over_clean) bytes text
-
--- so the text says how each process of the cluster file ended that these bytes are
-abbrev pub AreEnds : List Status → List ℕ → List ℕ → Type 0
-AreEnds statuses bytes text = AnswersScript cluster_file_line no_settings (λ script. TellsEnds script.cluster statuses) bytes text
-
 -- The text is the bytes that the process of a name put out in a run of the cluster of a script, which ended with these statuses.
 pub record IsRawAnswer (name : List ℕ) (over_clean : Type 0) (statuses : List Status) (script : ClusterFile) (text : List ℕ) : Type 0 where
   pub report : Report
   pub is_report : IsReport over_clean (programs_of script.cluster) report
   pub ended : statuses ≡ report.statuses.items
   pub is_text : text ≡ raw_text name script.cluster (outputs_of report)
-
--- the answer to the cluster file that these bytes are
-abbrev pub IsRawRun : List ℕ → Type 0 → List Status → List ℕ → List ℕ → Type 0
-IsRawRun name over_clean statuses bytes text = AnswersScript cluster_file_line no_settings (IsRawAnswer name over_clean statuses) bytes text
 
 -- the bytes are a cluster file of a process or more
 pub record IsClusterFile (bytes : List ℕ) : Type 0 where
@@ -69,8 +57,3 @@ IsErrorOfRun bytes error = IsByKind error (IsClusterFile bytes)
 -- no process of the cluster file that these bytes are has the name
 abbrev pub LacksProcess : List ℕ → List ℕ → Type 0
 LacksProcess name bytes = (script : ClusterFile) × IsScript cluster_file_line no_settings bytes script × (place_of name script.cluster.processes ≡ None)
-
--- the errors are those of a run, and that there is no process of the name
-abbrev pub IsErrorOfRawRun : List ℕ → List ℕ → CommandError → Type 0
-IsErrorOfRawRun name bytes errors.NoSuchProcess = LacksProcess name bytes
-IsErrorOfRawRun name bytes error = IsErrorOfRun bytes error

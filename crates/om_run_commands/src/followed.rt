@@ -96,7 +96,7 @@ pub(crate) fn run_followed<R: Threads + Wait + Clock + Sync, O: Opener<R> + Sync
         × Appends (W.contents writer) (W.contents result.1) text) }
     ensures error { IfErr result.0 (IsErrorOfScript script.now) }
     ensures partly { IfErr result.0 (λ error. IsByKind error
-        (IsPartOf form ((store : O.Store) → IsTrue (O.Store.is_clean store)) script.now (W.contents writer) (W.contents result.1))
+        (IsPartOf (told_text form script.now.cluster) ((store : O.Store) → IsTrue (O.Store.is_clean store)) script.now (W.contents writer) (W.contents result.1))
         (Keeps (W.contents writer) (W.contents result.1))) }
 {
     let programs = script.programs();

@@ -2,7 +2,7 @@
 
 ghost use Rattle.std.specs.Prelude.{◌≡◌, ◌≤◌, ℕ, IfErr, IfOk, IsTrue, List, length};
 ghost use Rattle.std.specs.Io.KnownBytes.{Appends, Keeps};
-ghost use Rattle.om_run_commands.specs.Follow.{IsBytesAnswer, IsFollowedRawAnswer, IsPartOfBytes, IsRawPartOf, bytes_told};
+ghost use Rattle.om_run_commands.specs.Follow.{IsBytesAnswer, IsFollowedRawAnswer, IsPartOf, IsRawPartOf, bytes_told};
 ghost use Rattle.om_run_commands.specs.Run.{IsByKind};
 ghost use Rattle.om_run_commands.specs.steps.Scripts.{IsErrorOfRawScript, IsErrorOfScript};
 
@@ -89,7 +89,7 @@ fn run_followed_bytes<R: Threads + Wait + Clock + Sync, O: Opener<R> + Sync, W: 
         × Appends (W.contents writer) (W.contents result.1) text) }
     ensures error { IfErr result.0 (IsErrorOfScript script.now) }
     ensures partly { IfErr result.0 (λ error. IsByKind error
-        (IsPartOfBytes pid ((store : O.Store) → IsTrue (O.Store.is_clean store)) script.now (W.contents writer) (W.contents result.1))
+        (IsPartOf (bytes_told pid) ((store : O.Store) → IsTrue (O.Store.is_clean store)) script.now (W.contents writer) (W.contents result.1))
         (Keeps (W.contents writer) (W.contents result.1))) }
 {
     let Ok(config) = config_of(alloc, turns, script) else {

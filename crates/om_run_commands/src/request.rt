@@ -3,9 +3,9 @@
 ghost use Rattle.std.specs.Prelude.{◌≡◌, ◌≤◌, ℕ, List, IsTrue, length, IfSome, IfErr, IfOk};
 ghost use Rattle.std.specs.Io.KnownBytes.{Appends, Keeps};
 ghost use Rattle.om_commands.specs.Command.{IsSilent};
-ghost use Rattle.om_run_commands.specs.Modes.{IsErrorIn, IsFollowing, IsPartIn, IsRunIn};
+ghost use Rattle.om_run_commands.specs.Modes.{IsAnswerIn, IsErrorIn, IsFollowing, IsPartIn, IsPartOfScriptIn, IsRunIn};
 ghost use Rattle.om_run_commands.specs.Run.{IsByKind};
-ghost use Rattle.om_run_commands.specs.steps.Modes.{IsAnswerIn, IsErrorOfScriptIn, IsPartOfScriptIn};
+ghost use Rattle.om_run_commands.specs.steps.Modes.{IsErrorOfScriptIn};
 
 use crate::check::{run_checked, run_with_witness};
 use crate::cluster_script::ClusterScript;

@@ -14,7 +14,7 @@ use Rattle.om_process.specs.declared.status.Status.{Status}
 use Rattle.om_report.specs.declared.report.Report.{Report}
 use Rattle.om_run_commands.specs.ClusterScript.{ClusterFile}
 use Rattle.om_run_commands.specs.Follow.{IsFollowedAnswer, IsFollowedRawAnswer}
-use Rattle.om_run_commands.specs.Modes.{IsErrorIn, IsPartIn, IsRunIn}
+use Rattle.om_run_commands.specs.Modes.{IsAnswerIn, IsErrorIn, IsPartIn, IsRunIn}
 use Rattle.om_report.specs.Reports.{IsReport, IsToldReport}
 use Rattle.om_report.specs.Telling.{Told}
 use Rattle.om_run_commands.specs.Run.{IsByKind, IsRawAnswer, IsRunAnswer}
@@ -78,20 +78,20 @@ module _ (A B : Type 0) (back : B → A) where
     record { front = h.2.front; told = h.2.told; is_told = followed_report_along _ statuses h.2.front h.2.told h.2.is_told; is_text = h.2.is_text },
   )
 
+  answer_along : (mode : RunMode) (form : BytesForm) (statuses : List Status) (script : ClusterFile) (text : List ℕ)
+      → IsAnswerIn mode form A statuses script text → IsAnswerIn mode form B statuses script text
+  answer_along modes.Plain form statuses script text h = (told_along form script text h.0, h.1)
+  answer_along modes.Check form statuses script text h = h
+  answer_along modes.Witness form statuses script text h = h
+  answer_along modes.Record form statuses script text h = (told_along form script text h.0, h.1)
+  answer_along modes.Follow form statuses script text h = (followed_along form script text h.0, h.1)
+  answer_along (modes.Raw name) form statuses script text h = raw_along name.now statuses script text h
+  answer_along (modes.FollowRaw name) form statuses script text h = followed_raw_along name.now statuses script text h
+
   run_along : (mode : RunMode) (form : BytesForm) (statuses : List Status) (bytes text : List ℕ) → IsRunIn mode form A statuses bytes text
       → IsRunIn mode form B statuses bytes text
-  run_along modes.Plain form statuses bytes text h =
-      (record { script = h.0.script; is_script = h.0.is_script; answer = told_along form h.0.script text h.0.answer }, h.1)
-  run_along modes.Check form statuses bytes text h = h
-  run_along modes.Witness form statuses bytes text h = h
-  run_along modes.Record form statuses bytes text h =
-      (record { script = h.0.script; is_script = h.0.is_script; answer = told_along form h.0.script text h.0.answer }, h.1)
-  run_along modes.Follow form statuses bytes text h =
-      (record { script = h.0.script; is_script = h.0.is_script; answer = followed_along form h.0.script text h.0.answer }, h.1)
-  run_along (modes.Raw name) form statuses bytes text h =
-      record { script = h.script; is_script = h.is_script; answer = raw_along name.now statuses h.script text h.answer }
-  run_along (modes.FollowRaw name) form statuses bytes text h =
-      record { script = h.script; is_script = h.is_script; answer = followed_raw_along name.now statuses h.script text h.answer }
+  run_along mode form statuses bytes text h =
+      record { script = h.script; is_script = h.is_script; answer = answer_along mode form statuses h.script text h.answer }
 
   where_along : {X : Type 0} (r : Result X Failure) (running : Running) (bytes : List ℕ) (a b : Option (List ℕ))
       → WhereRun r (IsAnswered running A bytes a b) → WhereRun r (IsAnswered running B bytes a b)
@@ -111,16 +111,8 @@ module _ (A B : Type 0) (back : B → A) where
   -- what was written of a run that was refused
   part_along : (mode : RunMode) (form : BytesForm) (bytes : List ℕ) (a b : Option (List ℕ)) → IsPartIn mode form A bytes a b
       → IsPartIn mode form B bytes a b
-  part_along modes.Follow form bytes a b h = record {
-    script = h.script;
-    is_script = h.is_script;
-    part = (h.part.0, h.part.1, (λ over. h.part.2 (back over)), h.part.3);
-  }
-  part_along (modes.FollowRaw name) form bytes a b h = record {
-    script = h.script;
-    is_script = h.is_script;
-    part = (h.part.0, h.part.1, (h.part.2.0, h.part.2.1, (λ over. h.part.2.2 (back over)), h.part.2.3));
-  }
+  part_along modes.Follow form bytes a b h = (h.0, h.1, (h.2.0, h.2.1, (λ over. h.2.2 (back over)), h.2.3))
+  part_along (modes.FollowRaw name) form bytes a b h = (h.0, h.1, (h.2.0, h.2.1, (h.2.2.0, h.2.2.1, (λ over. h.2.2.2 (back over)), h.2.2.3)))
   part_along _ form bytes a b h = h
 
   pub refused_along : {X : Type 0} (remaining : Option (List ℕ)) (r : Result X Failure) (running : Running) (a b : Option (List ℕ))

@@ -7,8 +7,8 @@ use Rattle.om_commands.specs.declared.bytes_text.BytesForm.{BytesForm}
 use Rattle.om_commands.specs.declared.error.CommandError.{CommandError}
 use Rattle.om_run_commands.specs.Check.{IsFailureFreeIn}
 use Rattle.om_run_commands.specs.ClusterScript.{ClusterFile}
-use Rattle.om_run_commands.specs.Follow.{IsFollowedAnswer, IsFollowedRawAnswer, IsPartOf, IsRawPartOf}
-use Rattle.om_run_commands.specs.Run.{IsRawAnswer, IsRunAnswer}
+use Rattle.om_run_commands.specs.Follow.{IsFollowedAnswer}
+use Rattle.om_run_commands.specs.Run.{IsRunAnswer}
 use Rattle.om_run_commands.specs.RunText.{TellsEnds}
 use Rattle.om_run_commands.specs.declared.mode.RunMode.{RunMode}
 use Rattle.om_run_commands.specs.declared.mode.RunMode.TheVariants as modes
@@ -26,31 +26,13 @@ IsCheckedAnswer form statuses script text = IsFailureFreeIn form script.cluster 
 abbrev pub IsFollowedTo : BytesForm → Type 0 → List Status → ClusterFile → List ℕ → Type 0
 IsFollowedTo form over_clean statuses script text = IsFollowedAnswer form over_clean script text × TellsEnds script.cluster statuses text
 
--- the text answers the script in a run of this mode that ended with these statuses
-abbrev pub IsAnswerIn : RunMode → BytesForm → Type 0 → List Status → ClusterFile → List ℕ → Type 0
-IsAnswerIn modes.Plain form over_clean statuses script text = IsToldAnswer form over_clean statuses script text
-IsAnswerIn modes.Check form over_clean statuses script text = IsCheckedAnswer form statuses script text
-IsAnswerIn modes.Witness form over_clean statuses script text = IsCheckedAnswer form statuses script text
-IsAnswerIn modes.Record form over_clean statuses script text = IsToldAnswer form over_clean statuses script text
-IsAnswerIn modes.Follow form over_clean statuses script text = IsFollowedTo form over_clean statuses script text
-IsAnswerIn (modes.Raw name) form over_clean statuses script text = IsRawAnswer name.now over_clean statuses script text
-IsAnswerIn (modes.FollowRaw name) form over_clean statuses script text = IsFollowedRawAnswer name.now over_clean statuses script text
-
 -- the error refuses the script in a run of this mode
 abbrev pub IsErrorOfScriptIn : RunMode → ClusterFile → CommandError → Type 0
-IsErrorOfScriptIn modes.Plain script error = IsErrorOfScript script error
 IsErrorOfScriptIn modes.Check script error = IsErrorOfCheckedScript script error
 IsErrorOfScriptIn modes.Witness script error = IsErrorOfCheckedScript script error
-IsErrorOfScriptIn modes.Record script error = IsErrorOfScript script error
-IsErrorOfScriptIn modes.Follow script error = IsErrorOfScript script error
 IsErrorOfScriptIn (modes.Raw name) script error = IsErrorOfRawScript name.now script error
 IsErrorOfScriptIn (modes.FollowRaw name) script error = IsErrorOfRawScript name.now script error
-
--- what was written of a run of a mode that follows, and came to no end
-abbrev pub IsPartOfScriptIn : RunMode → BytesForm → Type 0 → ClusterFile → Option (List ℕ) → Option (List ℕ) → Type 0
-IsPartOfScriptIn modes.Follow form over_clean script before after = IsPartOf form over_clean script before after
-IsPartOfScriptIn (modes.FollowRaw name) form over_clean script before after = IsRawPartOf name.now over_clean script before after
-IsPartOfScriptIn _ form over_clean script before after = ⊥
+IsErrorOfScriptIn _ script error = IsErrorOfScript script error
 
 -- the process whose outputs are asked for is none of the cluster
 abbrev pub LacksIn : RunMode → Cluster → Type 0

@@ -5,6 +5,7 @@ use Rattle.om_scripts.specs.Programs.{Cluster}
 use Rattle.om_commands.specs.declared.error.CommandError.{CommandError}
 use Rattle.om_commands.specs.declared.error.CommandError.TheVariants as errors
 use Rattle.om_run_commands.specs.ClusterScript.{ClusterFile}
+use Rattle.om_run_commands.specs.Run.{IsClusterFile, IsErrorOfRun, LacksProcess}
 
 -- The error of a script of this cluster that was read, or its writer's: a script without a process is told, and so is it where a run
 -- comes to no end. Nothing else of the script is.
@@ -40,3 +41,13 @@ IsErrorOfCheckedScript script error = IsErrorOfCheckedCluster script.cluster err
 
 abbrev pub IsErrorOfRawScript : List ℕ → ClusterFile → CommandError → Type 0
 IsErrorOfRawScript name script error = IsErrorOfRawCluster name script.cluster error
+
+-- the same by the bytes of the script: the errors are those of a run, and that it is unlike its check
+abbrev pub IsErrorOfCheckedRun : List ℕ → CommandError → Type 0
+IsErrorOfCheckedRun bytes errors.Unlike = IsClusterFile bytes
+IsErrorOfCheckedRun bytes error = IsErrorOfRun bytes error
+
+-- and that there is no process of the name
+abbrev pub IsErrorOfRawRun : List ℕ → List ℕ → CommandError → Type 0
+IsErrorOfRawRun name bytes errors.NoSuchProcess = LacksProcess name bytes
+IsErrorOfRawRun name bytes error = IsErrorOfRun bytes error
