@@ -4,10 +4,9 @@ use crate::connecting::Connects;
 use crate::opening::opened;
 use om_interval::Pid;
 use om_runner::OpenFault;
-use om_store_files::{Note, NotedFile, Notes, connection_options, store_of};
+use om_store_files::{Note, NotedFile, Notes, connection_options, open_noted, store_of};
 use sqlite::{Connection, FileStore};
-use sqlite_disk::Files as DiskFiles;
-use sqlite_std_file::{OpenError, Unknown, open};
+use sqlite_std_file::OpenError;
 use std::alloc::Global;
 use std::io::ErrorKind;
 
@@ -35,13 +34,9 @@ impl<'a> Connects for Files<'a> {
         let Some(options) = connection_options(self.rt) else {
             return Err(OpenFault::Refused);
         };
-        let DiskFiles { log, db } = match open(self.rt, path.as_str(), Unknown) {
+        let pair = match open_noted(self.rt, path.as_str(), note) {
             Ok(pair) => pair,
             Err(error) => return Err(refused(&error, note)),
-        };
-        let pair = DiskFiles {
-            log: NotedFile { inner: log, note },
-            db: NotedFile { inner: db, note },
         };
         opened(alloc, pair, options)
     }

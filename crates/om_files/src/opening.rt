@@ -17,6 +17,9 @@ use std::io;
 /// one take some hundred bytes.
 const PAGE_BYTES: usize = 1024;
 
+/// How many pages that were read a database in memory keeps beside itself: it has one, and 1 is the least.
+const BLANK_PAGES_KEPT: usize = 1;
+
 /// The bytes of the head of a frame of a log.
 const FRAME_HEAD: usize = 24;
 
@@ -108,6 +111,10 @@ fn blank(alloc: Global, size: PageSize, options: Options) -> Result<Files<Memory
     let files = Files {
         log: Memory::new(alloc),
         db: Memory::new(alloc),
+    };
+    let options = Options {
+        cache_pages: BLANK_PAGES_KEPT,
+        ..options
     };
     match begun(alloc, files, size, options)?.create() {
         Ok(store) => Ok(store.close()),

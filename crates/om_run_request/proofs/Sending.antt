@@ -23,4 +23,4 @@ note_sends : (r : NamedLft) → IsSend (as_row (option.the_field (ShrRef r.mir r
 note_sends r = search (note_syncs, sendable, variants_send, as_row_send) depth 12
 
 pub noted_sends : (r : NamedLft) → IsSend (noted.the_row r)
-noted_sends r = declared_send (noted.the_type r) (file_sends, (note_sends r, tt))
+noted_sends r = declared_send (noted.the_type r) (file_sends, (note_sends r, (search (sendable, as_row_send) depth 12, tt)))

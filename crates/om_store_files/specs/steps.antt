@@ -1,2 +1,3 @@
 -- What only the crate's own parts rest on: no public clause cites these.
 pub mod Places
+pub mod Halves

@@ -1,6 +1,8 @@
 //! What the system answered where a file of a cluster failed.
 
-ghost use Rattle.std.specs.Prelude.{◌≡◌, ◌↔◌, ◌<◌, IfOk, IfSome, IsSome};
+ghost use Rattle.std.specs.Prelude.{◌≡◌, ◌↔◌, ◌<◌, IfOk, IfSome, IsSome, IsTrue};
+ghost use Rattle.sqlite_disk.specs.Disk.{Only};
+ghost use Rattle.om_store_files.specs.FileDisk.{of_file};
 
 use om_interval::Pid;
 use sqlite_disk::{Disk, Tally};
@@ -89,11 +91,14 @@ impl Notes {
     }
 }
 
-/// A file of the system whose first error is noted.
+/// A file of the system whose first error is noted. A sync is passed over where nothing was written since the last one.
 #[derive(Drop)]
 pub struct NotedFile<'a> {
     pub inner: File,
     pub note: Option<&'a Note>,
+    /// Nothing was written since it was opened, or since the last sync.
+    pub is_synced: bool,
+    ghost synced: { IsTrue is_synced → Only (of_file.seen inner) (of_file.may_leave inner) },
 }
 
 // Notes an answer that is an error.
@@ -169,19 +174,25 @@ impl<'a> Disk for NotedFile<'a> {
     }
 
     fn write_at(&mut self, at: usize, bytes: &[u8]) -> io::Result<()> {
+        self.is_synced = false;
         let answer = self.inner.write_at(at, bytes);
         see(self.note, &answer);
         answer
     }
 
     fn set_len(&mut self, len: usize) -> io::Result<()> {
+        self.is_synced = false;
         let answer = self.inner.set_len(len);
         see(self.note, &answer);
         answer
     }
 
     fn sync(&mut self) -> io::Result<()> {
+        if self.is_synced {
+            return Ok(());
+        }
         let answer = self.inner.sync();
+        self.is_synced = answer.is_ok();
         see(self.note, &answer);
         answer
     }

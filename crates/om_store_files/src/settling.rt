@@ -1,17 +1,24 @@
 //! The files of a cluster behind its run.
 
 ghost use Rattle.std.specs.Prelude.{IsTrue};
+ghost use Rattle.om_store_files.specs.FileDisk.{of_file};
 
+use crate::halves::Half;
+use crate::log_copy::LogCopy;
 use crate::names::{is_written, log_of, store_of};
+use crate::noted_pair::open_noted;
+use crate::noting::NotedFile;
 use crate::options::connection_options;
 use sqlite::Options;
 use sqlite_disk::{Disk, Files};
 use sqlite_pager::Pager;
-use sqlite_std_file::{Unknown, open};
 use sqlite_wal::probe_page_size;
 use std::alloc::{AllocError, Global};
-use std::fs;
 use std::thread::{Threads, map_indices};
+use std::{fs, io};
+
+// How many pages that were read are kept meanwhile: none is read twice, and 1 is the least.
+const PAGES_KEPT: usize = 1;
 
 /// Copies the logs of the databases of so many processes into their files, and removes them: each store is in its one file.
 /// What cannot be settled stays as it is, a whole store in two files.
@@ -36,13 +43,44 @@ fn settle_one(rt: &HostRuntime, prefix: &str, process: usize) -> Result<(), Allo
     let Some(options) = connection_options(rt) else {
         return Ok(());
     };
-    if let Ok(files) = open(rt, file.as_str(), Unknown) {
+    if let Ok(files) = open_noted(rt, file.as_str(), None) {
+        let Files {
+            log: mut frames,
+            db,
+        } = files;
         // As long as they are open nobody else has them.
-        if let Some(_pages) = copied(rt.alloc(), files, options) {
+        if let Some(_pages) = copied_in(rt.alloc(), &mut frames, db, options) {
             let _ = fs::remove_file(rt, log.as_str());
         }
     }
     Ok(())
+}
+
+// Copies a log into the file of its database, and returns the pages where all of them are there. It is a copy of the log in memory
+// that is emptied: the log itself stands as long as the file may not be whole.
+fn copied_in<'a>(
+    alloc: Global,
+    log: &mut NotedFile<'_>,
+    db: NotedFile<'a>,
+    options: Options,
+) -> Option<Pager<Half<'a>>>
+    requires log { IsTrue (of_file.is_usable log.old.inner) }
+    requires db { IsTrue (of_file.is_usable db.inner) }
+{
+    let files = Files {
+        log: Half::Log(copy_of(alloc, log).ok()?),
+        db: Half::File(db),
+    };
+    copied(alloc, files, options)
+}
+
+// Returns what a log holds, in memory.
+fn copy_of(alloc: Global, log: &mut NotedFile<'_>) -> io::Result<LogCopy>
+    requires { IsTrue (of_file.is_usable log.old.inner) }
+{
+    let mut bytes = vec![in alloc; 0u8; log.len()?]?;
+    log.read_at(0, &mut bytes)?;
+    Ok(LogCopy::new(bytes))
 }
 
 // Copies the log of a database into its file, and returns the pages where all of them are there. What stands in them is no matter
@@ -53,6 +91,10 @@ fn copied<D: Disk + Drop>(alloc: Global, mut files: Files<D>, options: Options) 
 {
     let Ok(Some(size)) = probe_page_size(&mut files) else {
         return None;
+    };
+    let options = Options {
+        cache_pages: PAGES_KEPT,
+        ..options
     };
     let mut pager = Pager::new(alloc, files, size, options).ok()?;
     pager.recover().ok()?;

@@ -1,0 +1,33 @@
+//! The files of a database, whose first error is noted.
+
+ghost use Rattle.std.specs.Prelude.{IfOk, IsTrue};
+ghost use Rattle.om_store_files.specs.FileDisk.{of_file};
+
+use crate::noting::{Note, NotedFile};
+use sqlite_disk::Files;
+use sqlite_std_file::{OpenError, Unknown, open};
+
+/// Opens a database file and its log, as [`open`] does, and notes in both what the system answers where a call fails from then on.
+pub fn open_noted<'a>(
+    rt: &HostRuntime,
+    path: &str,
+    note: Option<&'a Note>,
+) -> Result<Files<NotedFile<'a>>, OpenError>
+    ensures log { IfOk result (λ files. IsTrue (of_file.is_usable files.log.inner)) }
+    ensures db { IfOk result (λ files. IsTrue (of_file.is_usable files.db.inner)) }
+{
+    // They were synced as they were opened.
+    let Files { log, db } = open(rt, path, Unknown)?;
+    Ok(Files {
+        log: NotedFile {
+            inner: log,
+            note,
+            is_synced: true,
+        },
+        db: NotedFile {
+            inner: db,
+            note,
+            is_synced: true,
+        },
+    })
+}
