@@ -20,13 +20,13 @@ pub struct Files<'a> {
 }
 
 impl<'a> Connects for Files<'a> {
-    type Disk = FileStore<NotedFile<'a>>;
+    type Disk = FileStore<NotedFile>;
 
     fn connect(
         &self,
         alloc: Global,
         pid: Pid,
-    ) -> Result<Connection<FileStore<NotedFile<'a>>>, OpenFault> {
+    ) -> Result<Connection<FileStore<NotedFile>>, OpenFault> {
         let note = self.notes.of(pid);
         let Ok(path) = store_of(alloc, self.prefix, pid.index()) else {
             return Err(OpenFault::Memory);

@@ -7,14 +7,14 @@ use std::io;
 
 /// A file of a database whose log is put into its file, and then removed.
 #[derive(Drop)]
-pub(crate) enum Half<'a> {
+pub(crate) enum Half {
     /// A copy of its log: what is done to it need not stand anywhere.
     Log(LogCopy),
     /// Its file.
-    File(NotedFile<'a>),
+    File(NotedFile),
 }
 
-impl<'a> Disk for Half<'a> {
+impl Disk for Half {
     ghost use Rattle.om_store_files.specs.steps.Halves.{seen_of, may_leave_of, is_usable_of, faults_of, tally_in};
     ghost use Rattle.om_store_files.specs.steps.Halves.{is_clean_of, key_in, is_fair_of, fair_if_clean_of, seen_stays};
 

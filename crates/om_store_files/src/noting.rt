@@ -10,19 +10,32 @@ use sqlite_std_file::File;
 use std::alloc::{AllocError, Global};
 use std::io;
 use std::marker::Model;
+use std::sync::Arc;
 use std::sync::atomic::AtomicI32;
 use std::sync::atomic::Ordering::SeqCst;
 
 // The code of no error of the system.
 const NONE: i32 = 0;
 
-/// The first error of the system that the files of a process met, if there was one.
+/// The first error of the system that the files of a process met, if there was one. All who note in it share it.
 #[derive(Drop)]
 pub struct Note {
-    code: AtomicI32,
+    code: Arc<AtomicI32>,
 }
 
 impl Note {
+    // Makes the note of a process that met no error yet.
+    fn new(alloc: Global) -> Result<Note, AllocError> {
+        let code = Arc::new(alloc, AtomicI32::new(NONE))?;
+        Ok(Note { code })
+    }
+
+    // Returns the same note, for one more who notes in it. Refused only where more share it than can be counted.
+    pub(crate) fn share(&self) -> Result<Note, AllocError> {
+        let code = Arc::try_clone(&self.code)?;
+        Ok(Note { code })
+    }
+
     /// Keeps what the system answered, where it is the first such answer.
     pub fn take(&self, error: &io::Error) {
         if let Some(code) = error.raw_os_error() {
@@ -65,8 +78,7 @@ impl Notes {
     {
         let mut notes = Vec::with_capacity(alloc, n)?;
         for _ in 0..n {
-            let code = AtomicI32::new(NONE);
-            notes.push(Note { code })?;
+            notes.push(Note::new(alloc)?)?;
         }
         Ok(Notes { notes })
     }
@@ -93,9 +105,9 @@ impl Notes {
 
 /// A file of the system whose first error is noted. A sync is passed over where nothing was written since the last one.
 #[derive(Drop)]
-pub struct NotedFile<'a> {
+pub struct NotedFile {
     pub inner: File,
-    pub note: Option<&'a Note>,
+    pub note: Option<Note>,
     /// Nothing was written since it was opened, or since the last sync.
     pub is_synced: bool,
     ghost synced: { IsTrue is_synced → Only (of_file.seen inner) (of_file.may_leave inner) },
@@ -108,7 +120,7 @@ fn see<T>(note: Option<&Note>, answer: &io::Result<T>) {
     }
 }
 
-impl<'a> Disk for NotedFile<'a> {
+impl Disk for NotedFile {
     ghost use Rattle.std.specs.Prelude.{refl};
     ghost use Rattle.std.proofs.Common.{inl};
     ghost use Rattle.om_store_files.specs.FileDisk.{fair_if_clean, of_file};
@@ -157,33 +169,33 @@ impl<'a> Disk for NotedFile<'a> {
 
     fn len(&mut self) -> io::Result<usize> {
         let answer = self.inner.len();
-        see(self.note, &answer);
+        see(self.note.as_ref(), &answer);
         answer
     }
 
     fn read_at(&mut self, at: usize, buf: &mut [u8]) -> io::Result<()> {
         let answer = self.inner.read_at(at, buf);
-        see(self.note, &answer);
+        see(self.note.as_ref(), &answer);
         answer
     }
 
     fn read_checked(&mut self, key: u64, want: u64, at: usize, buf: &mut [u8]) -> io::Result<()> {
         let answer = self.inner.read_checked(key, want, at, buf);
-        see(self.note, &answer);
+        see(self.note.as_ref(), &answer);
         answer
     }
 
     fn write_at(&mut self, at: usize, bytes: &[u8]) -> io::Result<()> {
         self.is_synced = false;
         let answer = self.inner.write_at(at, bytes);
-        see(self.note, &answer);
+        see(self.note.as_ref(), &answer);
         answer
     }
 
     fn set_len(&mut self, len: usize) -> io::Result<()> {
         self.is_synced = false;
         let answer = self.inner.set_len(len);
-        see(self.note, &answer);
+        see(self.note.as_ref(), &answer);
         answer
     }
 
@@ -193,7 +205,7 @@ impl<'a> Disk for NotedFile<'a> {
         }
         let answer = self.inner.sync();
         self.is_synced = answer.is_ok();
-        see(self.note, &answer);
+        see(self.note.as_ref(), &answer);
         answer
     }
 }

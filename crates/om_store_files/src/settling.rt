@@ -58,12 +58,12 @@ fn settle_one(rt: &HostRuntime, prefix: &str, process: usize) -> Result<(), Allo
 
 // Copies a log into the file of its database, and returns the pages where all of them are there. It is a copy of the log in memory
 // that is emptied: the log itself stands as long as the file may not be whole.
-fn copied_in<'a>(
+fn copied_in(
     alloc: Global,
-    log: &mut NotedFile<'_>,
-    db: NotedFile<'a>,
+    log: &mut NotedFile,
+    db: NotedFile,
     options: Options,
-) -> Option<Pager<Half<'a>>>
+) -> Option<Pager<Half>>
     requires log { IsTrue (of_file.is_usable log.old.inner) }
     requires db { IsTrue (of_file.is_usable db.inner) }
 {
@@ -75,7 +75,7 @@ fn copied_in<'a>(
 }
 
 // Returns what a log holds, in memory.
-fn copy_of(alloc: Global, log: &mut NotedFile<'_>) -> io::Result<LogCopy>
+fn copy_of(alloc: Global, log: &mut NotedFile) -> io::Result<LogCopy>
     requires { IsTrue (of_file.is_usable log.old.inner) }
 {
     let mut bytes = vec![in alloc; 0u8; log.len()?]?;
