@@ -6,14 +6,15 @@ use Rattle.std.proofs.Math.Seq.{take-add}
 use Rattle.std.proofs.lemmas.List.{append-nil, take_all}
 use Rattle.std.proofs.lemmas.List.Elements.{All-append, All-nil}
 use Rattle.om_world.specs.Happened.{Happened}
-use Rattle.om_world.specs.Played.{IsFaultless, Played, Step}
+use Rattle.om_world.specs.Played.{IsFaultless, Played}
 use Rattle.om_world.specs.World.{WorldState}
 use Rattle.om_world.specs.declared.event.Answer.{Answer}
 use Rattle.om_world.specs.declared.event.Answer.TheVariants as answers
 use Rattle.om_world.specs.declared.event.Event.{Event}
 use Rattle.om_world.specs.declared.event.Event.TheVariants as events
 use Rattle.om_commands.specs.Sim.{PlayedLines}
-use Rattle.om_commands.specs.SimText.{answer_line, answers_text}
+use Rattle.om_commands.specs.SimText.{answer_line}
+use Rattle.om_commands.specs.steps.Lines.{answers_text}
 use Rattle.om_commands.specs.steps.Parts.{ArePlayed, EndsPart}
 
 -- a restart alone is answered so

@@ -12,20 +12,18 @@ use Rattle.om_commands.specs.declared.error.CommandError.TheVariants as errors
 abbrev pub IsReplayText : Content → ℕ → List ℕ → Type 0
 IsReplayText held x text = (core : CoreState) × IsReplay held x core × (text ≡ state_text core)
 
--- The error is that of the content. Those of the store, the writer and memory may come whatever it is.
-abbrev pub IsReplayError : Content → ℕ → CommandError → Type 0
-IsReplayError held x errors.NoCheckpoint = Refuses anyone held x replaying.NoCheckpoint
-IsReplayError held x (errors.Damaged y) = Refuses anyone held x (replaying.Damaged y)
-IsReplayError held x (errors.MissingReceipt y) = Refuses anyone held x (replaying.MissingReceipt y)
-IsReplayError held x (errors.Mismatch y) = Refuses anyone held x (replaying.Mismatch y)
-IsReplayError held x errors.StoreFault = Unit {0}
-IsReplayError held x errors.NoMemory = Unit {0}
-IsReplayError held x errors.CannotWrite = CanReplay anyone held x
-IsReplayError held x _ = ⊥
-
--- the errors that the content does not tell
+-- the errors that the content does not tell: those of the store, the writer and memory
 abbrev pub IsNoMatterOfContent : CommandError → Type 0
 IsNoMatterOfContent errors.StoreFault = Unit {0}
 IsNoMatterOfContent errors.NoMemory = Unit {0}
 IsNoMatterOfContent errors.CannotWrite = Unit {0}
 IsNoMatterOfContent _ = ⊥
+
+-- The error is that of the content, or one that it does not tell; the writer's comes only where the process can be replayed.
+abbrev pub IsReplayError : Content → ℕ → CommandError → Type 0
+IsReplayError held x errors.NoCheckpoint = Refuses anyone held x replaying.NoCheckpoint
+IsReplayError held x (errors.Damaged y) = Refuses anyone held x (replaying.Damaged y)
+IsReplayError held x (errors.MissingReceipt y) = Refuses anyone held x (replaying.MissingReceipt y)
+IsReplayError held x (errors.Mismatch y) = Refuses anyone held x (replaying.Mismatch y)
+IsReplayError held x errors.CannotWrite = CanReplay anyone held x
+IsReplayError held x error = IsNoMatterOfContent error

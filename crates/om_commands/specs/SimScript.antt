@@ -17,10 +17,7 @@ no_events = record { cluster = no_programs; events = [] }
 
 -- one more event, behind which no line of a program or a process may stand
 abbrev pub with_event : EventScript → Event → EventScript
-with_event script event = record script {
-  cluster = record script.cluster { is_closed = true };
-  events = script.events ++ event ∷ [];
-}
+with_event script event = record script { cluster = record script.cluster { is_closed = true }; events = script.events ++ event ∷ [] }
 
 -- a line, by its first word
 abbrev pub event_script_line : EventScript → List (List ℕ) → Result EventScript LineError

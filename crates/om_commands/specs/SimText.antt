@@ -18,10 +18,6 @@ abbrev pub answer_line : Answer → List ℕ → List ℕ
 answer_line Restarted state = codes "restarted" ++ intervals_text state
 answer_line answer state = answer_text answer ++ 10 ∷ []
 
--- a line for each answer to events after which the recovery state is this where a restart is the last of them
-abbrev pub answers_text : List ℕ → List Answer → List ℕ
-answers_text state answers = flat_map (λ answer. answer_line answer state) answers
-
 -- the name of a process
 abbrev pub name_at : Cluster → ℕ → List ℕ
 name_at cluster p = (slice_index_or cluster.processes p ([], 0)).0

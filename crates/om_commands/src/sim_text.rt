@@ -5,8 +5,8 @@ ghost use Rattle.std.specs.List.{flat_map, range_with_len};
 ghost use Rattle.om_interval.specs.declared.pid.TheConstants.{MAX_PROCESSES};
 ghost use Rattle.om_manager.specs.Outputs.{held_of};
 ghost use Rattle.om_manager.specs.State.{process_count};
-ghost use Rattle.om_commands.specs.SimText.{answer_line, answers_text, core_text, name_at, output_line, outputs_text};
-ghost use Rattle.om_commands.specs.steps.Lines.{process_line, released_text, written_end};
+ghost use Rattle.om_commands.specs.SimText.{answer_line, core_text, name_at, output_line, outputs_text};
+ghost use Rattle.om_commands.specs.steps.Lines.{answers_text, process_line, released_text, written_end};
 
 use crate::bytes_text::{BytesForm, push_bytes_in};
 use crate::report::push_state;

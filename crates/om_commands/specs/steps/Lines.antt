@@ -11,8 +11,9 @@ use Rattle.om_scripts.specs.Programs.{Cluster}
 use Rattle.om_look.specs.Trace.{word_text}
 use Rattle.om_world.specs.Texts.{status_text}
 use Rattle.om_world.specs.World.{WorldState}
+use Rattle.om_world.specs.declared.event.Answer.{Answer}
 use Rattle.om_commands.specs.Report.{intervals_text}
-use Rattle.om_commands.specs.SimText.{core_text, name_at, outputs_text}
+use Rattle.om_commands.specs.SimText.{answer_line, core_text, name_at, outputs_text}
 use Rattle.om_commands.specs.declared.bytes_text.BytesForm.{BytesForm}
 use Rattle.om_commands.specs.declared.state_text.TheConstants.{ROW_BYTES}
 
@@ -63,3 +64,7 @@ written_end form cluster n w =
     codes "recovery" ++ intervals_text w.manager.recovery
     ++ flat_map (process_line cluster w.cores) (range_with_len 0 n)
     ++ flat_map (released_text form cluster w.manager) (range_with_len 0 n)
+
+-- a line for each answer to events after which the recovery state is this where a restart is the last of them
+abbrev pub answers_text : List ℕ → List Answer → List ℕ
+answers_text state answers = flat_map (λ answer. answer_line answer state) answers

@@ -1,5 +1,5 @@
 use Rattle.std.proofs.Common.{◌≡◌, ◌++◌, take, string_bytes}
-use Rattle.om_commands.specs.SimText.{answers_text}
+use Rattle.om_commands.specs.steps.Lines.{answers_text}
 use Rattle.om_commands.proofs.sim_text.push_answers.Given as goal
 
 abbrev pub invariant-loop-answer : goal.invariant-loop-answer
