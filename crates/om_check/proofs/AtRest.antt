@@ -261,32 +261,32 @@ rests_at programs live p program out status e rests mine to may =
 
 pub whole_over : (programs : List Program) (live : List Entry) (outputs : List (List HeldOutput)) (statuses : List Status)
     → IsRunBy programs live outputs statuses → IsOver programs live
-whole_over programs live outputs statuses run = (run.legal, λ e may. none e may)
+whole_over programs live outputs statuses run = (run.rest.legal, λ e may. none e may)
   where
     none : (e : Entry) → MayFollow programs live e → ⊥
     none e may =
         let program = there programs e.to may.to in
-        let out = there outputs e.to (subst (λ k. e.to < k) (sym run.processes) may.to) in
-        let status = there statuses e.to (subst (λ k. e.to < k) (sym run.ends) may.to) in
-        let comes = run.each e.to program.0 out.0 status.0 program.1 out.1 status.1 in
-        let is : status.0 ≡ Waiting = rests_at programs live e.to program.0 out.0 status.0 e comes.0 (program_is programs e.to program.0 program.1) refl may in
-        subst IsEnd is comes.1
+        let out = there outputs e.to (subst (λ k. e.to < k) (sym run.rest.processes) may.to) in
+        let status = there statuses e.to (subst (λ k. e.to < k) (sym run.rest.stands) may.to) in
+        let comes = run.rest.each e.to program.0 out.0 status.0 program.1 out.1 status.1 in
+        let is : status.0 ≡ Waiting = rests_at programs live e.to program.0 out.0 status.0 e comes (program_is programs e.to program.0 program.1) refl may in
+        subst IsEnd is (run.ended e.to status.0 status.1)
 
 pub stuck_over : (programs : List Program) (live : List Entry) (outputs : List (List HeldOutput)) (statuses : List Status)
     → IsStuckBy programs live outputs statuses → IsOver programs live
-stuck_over programs live outputs statuses run = (run.legal, λ e may. none e may)
+stuck_over programs live outputs statuses run = (run.rest.legal, λ e may. none e may)
   where
     none : (e : Entry) → MayFollow programs live e → ⊥
     none e may =
         let program = there programs e.to may.to in
-        let out = there outputs e.to (subst (λ k. e.to < k) (sym run.processes) may.to) in
-        let status = there statuses e.to (subst (λ k. e.to < k) (sym run.stands) may.to) in
-        let rests = run.each e.to program.0 out.0 status.0 program.1 out.1 status.1 in
+        let out = there outputs e.to (subst (λ k. e.to < k) (sym run.rest.processes) may.to) in
+        let status = there statuses e.to (subst (λ k. e.to < k) (sym run.rest.stands) may.to) in
+        let rests = run.rest.each e.to program.0 out.0 status.0 program.1 out.1 status.1 in
         let is : status.0 ≡ Waiting = rests_at programs live e.to program.0 out.0 status.0 e rests (program_is programs e.to program.0 program.1) refl may in
         let sender = there programs e.from may.from in
-        let sent = there outputs e.from (subst (λ k. e.from < k) (sym run.processes) may.from) in
-        let stands = there statuses e.from (subst (λ k. e.from < k) (sym run.stands) may.from) in
-        let theirs = run.each e.from sender.0 sent.0 stands.0 sender.1 sent.1 stands.1 in
+        let sent = there outputs e.from (subst (λ k. e.from < k) (sym run.rest.processes) may.from) in
+        let stands = there statuses e.from (subst (λ k. e.from < k) (sym run.rest.stands) may.from) in
+        let theirs = run.rest.each e.from sender.0 sent.0 stands.0 sender.1 sent.1 stands.1 in
         let mine : program_at programs e.from ≡ sender.0 = program_is programs e.from sender.0 sender.1 in
         let reaches : Reaches (program_at programs e.from) e.from (length programs) (received e.from live) theirs.end =
         subst (λ q. Reaches q e.from (length programs) (received e.from live) theirs.end) (sym mine) theirs.reaches in

@@ -22,7 +22,7 @@ use Rattle.om_world.specs.Holds.{StandsAt}
 use Rattle.om_world.specs.Live.{Legal, program_at, received}
 use Rattle.om_world.specs.World.{WorldState, output_entry}
 use Rattle.om_world.specs.declared.process_state.ProcessState.{ProcessState}
-use Rattle.om_check.specs.FailureFree.{RunsAloneTo, IsAtRest, IsRunBy, RestsWith}
+use Rattle.om_check.specs.FailureFree.{IsAtRest, IsRunBy, RestsWith}
 use Rattle.om_check.specs.Whole.{AreReleasedIn, AreStatusesOf, IsDone, IsUnderWay, IsWhole}
 
 -- ---- queues from 0 on
@@ -234,26 +234,25 @@ ended_core : (w : WorldState) (p : ℕ) (c : CoreState) → IsDone w p → slice
 ended_core w p c done core =
     let is : done.0 ≡ c = core_once (sym done.1 ∙ core) in subst (λ (d : CoreState). IsEnd (status_of (move_of d))) is done.4
 
-comes_to : (programs : List Program) (w : WorldState) (p : ℕ) (program : Program) (c : CoreState) → IsWhole programs w
-    → slice_get programs p ≡ Some program → slice_get w.cores p ≡ Some (Some c)
-    → RunsAloneTo program p (length programs) (received p w.live) (released_by w.manager p) (status_of (move_of c))
-comes_to programs w p program c whole at core =
-    let done = whole.done p (below programs p program at) in
-    (rests_with programs w p program c whole.way (rested_done w p done) at core, ended_core w p c done core)
-
 -- all of its processes do
 pub whole_run : (programs : List Program) (w : WorldState) (outputs : List (List HeldOutput)) (statuses : List Status) → IsWhole programs w
     → length outputs ≡ length programs → length statuses ≡ length programs → AreReleasedIn w outputs → AreStatusesOf w statuses
     → IsRunBy programs w.live outputs statuses
 whole_run programs w outputs statuses whole processes ends outs stats = record {
-  legal = subst (λ ps. Legal ps w.live) whole.way.these whole.way.holds.legal;
-  processes = processes;
-  ends = ends;
-  each = λ p program out status at out_at status_at.
-      let core = stats p status status_at in
-      subst (λ os. RunsAloneTo program p (length programs) (received p w.live) os status) (sym (outs p out out_at))
-      (subst (λ s. RunsAloneTo program p (length programs) (received p w.live) (released_by w.manager p) s) (sym core.2)
-      (comes_to programs w p program core.0 whole at core.1));
+  rest = record {
+    legal = subst (λ ps. Legal ps w.live) whole.way.these whole.way.holds.legal;
+    processes = processes;
+    stands = ends;
+    each = λ p program out status at out_at status_at.
+        let core = stats p status status_at in
+        subst (λ os. RestsWith program p (length programs) (received p w.live) os status) (sym (outs p out out_at))
+        (subst (λ s. RestsWith program p (length programs) (received p w.live) (released_by w.manager p) s) (sym core.2)
+        (rests_with programs w p program core.0 whole.way (rested_done w p (whole.done p (below programs p program at))) at core.1));
+  };
+  ended = λ p status at.
+      let core = stats p status at in
+      let lt = subst (λ n. p < n) ends (below statuses p status at) in
+      subst IsEnd (sym core.2) (ended_core w p core.0 (whole.done p lt) core.1);
 }
 
 -- what holds of each number below one, and of it, holds of each below the next

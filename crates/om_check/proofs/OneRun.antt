@@ -76,21 +76,11 @@ by_place (x ∷ xs) (y ∷ ys) long same =
 -- ---- a run is at rest in one way
 pub rests : (programs : List Program) (live : List Entry) (outputs : List (List HeldOutput)) (statuses : List Status)
     → IsRunBy programs live outputs statuses → IsRestBy programs live outputs statuses
-rests programs live outputs statuses run = record {
-  legal = run.legal;
-  processes = run.processes;
-  stands = run.ends;
-  each = λ p program out status at out_at status_at. (run.each p program out status at out_at status_at).0;
-}
+rests programs live outputs statuses run = run.rest
 
 pub stuck_rests : (programs : List Program) (live : List Entry) (outputs : List (List HeldOutput)) (statuses : List Status)
     → IsStuckBy programs live outputs statuses → IsRestBy programs live outputs statuses
-stuck_rests programs live outputs statuses stuck = record {
-  legal = stuck.legal;
-  processes = stuck.processes;
-  stands = stuck.stands;
-  each = stuck.each;
-}
+stuck_rests programs live outputs statuses stuck = stuck.rest
 
 pub one_rest_of : (programs : List Program) (live other : List Entry) (outputs others : List (List HeldOutput)) (statuses ends : List Status)
     → IsRestBy programs live outputs statuses → IsRestBy programs other others ends → IsSameRun live other → (outputs ≡ others) × (statuses ≡ ends)

@@ -160,14 +160,16 @@ pub stuck_run : (programs : List Program) (w : WorldState) (outputs : List (List
     → length outputs ≡ length programs → length statuses ≡ length programs → AreReleasedIn w outputs → AreStatusesOf w statuses
     → IsStuckBy programs w.live outputs statuses
 stuck_run programs w outputs statuses stuck processes stands outs stats = record {
-  legal = subst (λ ps. Legal ps w.live) stuck.way.these stuck.way.holds.legal;
-  processes = processes;
-  stands = stands;
-  each = λ p program out status at out_at status_at.
-      let core = stats p status status_at in
-      subst (λ os. RestsWith program p (length programs) (received p w.live) os status) (sym (outs p out out_at))
-      (subst (λ s. RestsWith program p (length programs) (received p w.live) (released_by w.manager p) s) (sym core.2)
-      (rests_with programs w p program core.0 stuck.way (rested w p (stuck.each p (below programs p program at))) at core.1));
+  rest = record {
+    legal = subst (λ ps. Legal ps w.live) stuck.way.these stuck.way.holds.legal;
+    processes = processes;
+    stands = stands;
+    each = λ p program out status at out_at status_at.
+        let core = stats p status status_at in
+        subst (λ os. RestsWith program p (length programs) (received p w.live) os status) (sym (outs p out out_at))
+        (subst (λ s. RestsWith program p (length programs) (received p w.live) (released_by w.manager p) s) (sym core.2)
+        (rests_with programs w p program core.0 stuck.way (rested w p (stuck.each p (below programs p program at))) at core.1));
+  };
   waits = λ p status_at.
       let core = stats p Waiting status_at in
       let p_lt = subst (λ n. p < n) stands (below statuses p Waiting status_at) in

@@ -27,18 +27,19 @@ pub record RestsWith (program : Program) (own n : ℕ) (h : List Received) (outp
   pub at_rest : IsAtRest status
   pub put_out : queue_at end.queues n ≡ record { first = 0; entries = map output_entry outputs }
 
--- by these receipts process `own` of n comes to an end with this status, and has put out exactly this
-abbrev pub RunsAloneTo : Program → ℕ → ℕ → List Received → List HeldOutput → Status → Type 0
-RunsAloneTo program own n h outputs status = RestsWith program own n h outputs status × IsEnd status
+-- what the processes put out, and how each stands, once nothing comes next by itself in the run without failures in which this was received
+pub record IsRestBy (programs : List Program) (live : List Entry) (outputs : List (List HeldOutput)) (statuses : List Status) : Type 0 where
+  pub legal : Legal programs live
+  pub processes : length outputs ≡ length programs
+  pub stands : length statuses ≡ length programs
+  pub each : (p : ℕ) (program : Program) (out : List HeldOutput) (status : Status)
+      → slice_get programs p ≡ Some program → slice_get outputs p ≡ Some out → slice_get statuses p ≡ Some status
+      → RestsWith program p (length programs) (received p live) out status
 
 -- what the processes put out, and how they ended, in the run without failures in which this was received
 pub record IsRunBy (programs : List Program) (live : List Entry) (outputs : List (List HeldOutput)) (statuses : List Status) : Type 0 where
-  pub legal : Legal programs live
-  pub processes : length outputs ≡ length programs
-  pub ends : length statuses ≡ length programs
-  pub each : (p : ℕ) (program : Program) (out : List HeldOutput) (status : Status)
-      → slice_get programs p ≡ Some program → slice_get outputs p ≡ Some out → slice_get statuses p ≡ Some status
-      → RunsAloneTo program p (length programs) (received p live) out status
+  pub rest : IsRestBy programs live outputs statuses
+  pub ended : (p : ℕ) (status : Status) → slice_get statuses p ≡ Some status → IsEnd status
 
 -- all that was sent to a process was received: whatever another comes to have sent to it has a lower number than the next one from there
 abbrev pub HasReceivedAll : List Program → List Entry → ℕ → Type 0
@@ -50,19 +51,5 @@ HasReceivedAll programs live p =
 -- What the processes put out, and how each stands, in a run without failures in which this was received and nothing is left to
 -- happen: each has ended, or waits and has received all that was sent to it.
 pub record IsStuckBy (programs : List Program) (live : List Entry) (outputs : List (List HeldOutput)) (statuses : List Status) : Type 0 where
-  pub legal : Legal programs live
-  pub processes : length outputs ≡ length programs
-  pub stands : length statuses ≡ length programs
-  pub each : (p : ℕ) (program : Program) (out : List HeldOutput) (status : Status)
-      → slice_get programs p ≡ Some program → slice_get outputs p ≡ Some out → slice_get statuses p ≡ Some status
-      → RestsWith program p (length programs) (received p live) out status
+  pub rest : IsRestBy programs live outputs statuses
   pub waits : (p : ℕ) → slice_get statuses p ≡ Some Waiting → HasReceivedAll programs live p
-
--- what the processes put out, and how each stands, once nothing comes next by itself in the run without failures in which this was received
-pub record IsRestBy (programs : List Program) (live : List Entry) (outputs : List (List HeldOutput)) (statuses : List Status) : Type 0 where
-  pub legal : Legal programs live
-  pub processes : length outputs ≡ length programs
-  pub stands : length statuses ≡ length programs
-  pub each : (p : ℕ) (program : Program) (out : List HeldOutput) (status : Status)
-      → slice_get programs p ≡ Some program → slice_get outputs p ≡ Some out → slice_get statuses p ≡ Some status
-      → RestsWith program p (length programs) (received p live) out status

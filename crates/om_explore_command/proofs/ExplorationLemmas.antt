@@ -59,17 +59,7 @@ all_texts cluster found runs tally all live text is =
 -- a run in which each process has ended is one in which nothing is left to happen
 stuck_of : (programs : List Program) (live : List Entry) (outputs : List (List HeldOutput)) (statuses : List Status)
     → IsRunBy programs live outputs statuses → IsStuckBy programs live outputs statuses
-stuck_of programs live outputs statuses run = record {
-  legal = run.legal;
-  processes = run.processes;
-  stands = run.ends;
-  each = λ p program out status at out_at status_at. (run.each p program out status at out_at status_at).0;
-  waits = λ p at.
-      let low : p < length programs = subst (λ n. p < n) run.ends (below statuses p Waiting at) in
-      let program = there programs p low in
-      let out = there outputs p (subst (λ n. p < n) (sym run.processes) low) in
-      absurd (run.each p program.0 out.0 Waiting program.1 out.1 at).1;
-}
+stuck_of programs live outputs statuses run = record { rest = run.rest; waits = λ p at. absurd (run.ended p Waiting at) }
 
 -- its text as it is written of a run is the text of the exploration
 pub text_of_run : (cluster : Cluster) (live : List Entry) (text : List ℕ) → IsTextIn Hex cluster live text → IsTextOf cluster live text

@@ -65,9 +65,9 @@ error_of_witness script error (inr is) = subst (IsErrorOfScript script) (sym is)
 -- ---- each report is of the cluster's processes
 report_of : (cluster : Cluster) (live : _) (found : Found) → IsOutcome cluster live found.outcome → OfCluster (length cluster.processes) found
 report_of cluster live found is = record {
-  released = sym (length-map found.outcome.report.released.items (λ (outputs : Vec Output Global). map held_of outputs.items)) ∙ is.run.processes
+  released = sym (length-map found.outcome.report.released.items (λ (outputs : Vec Output Global). map held_of outputs.items)) ∙ is.run.rest.processes
       ∙ length-map cluster.processes (λ e. program_at cluster e.1);
-  statuses = is.run.stands ∙ length-map cluster.processes (λ e. program_at cluster e.1);
+  statuses = is.run.rest.stands ∙ length-map cluster.processes (λ e. program_at cluster e.1);
 }
 
 pub reports_of : (cluster one two : Cluster) (exploration : Exploration) → one ≡ cluster → two ≡ cluster → IsExploration one exploration
