@@ -1,3 +1,2 @@
 pub mod HarvestLemmas
 pub mod ReleasedLemmas
-pub mod FollowLemmas

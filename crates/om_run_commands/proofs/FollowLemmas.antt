@@ -12,8 +12,8 @@ use Rattle.om_scripts.specs.Programs.{Cluster, programs_of}
 use Rattle.om_report.specs.declared.report.FollowedReport.{FollowedReport}
 use Rattle.om_report.specs.Reports.{IsToldReport}
 use Rattle.om_runner.specs.Telling.{AreInOrder, AreToldMade, Told}
-use Rattle.om_report.specs.declared.follower.FollowFault.{FollowFault}
-use Rattle.om_report.specs.declared.follower.FollowFault.TheVariants.{Run, Unwanted}
+use Rattle.om_following.specs.declared.follower.FollowFault.{FollowFault}
+use Rattle.om_following.specs.declared.follower.FollowFault.TheVariants.{Run, Unwanted}
 use Rattle.om_report.specs.declared.fault.RunFault.{RunFault}
 use Rattle.om_report.specs.declared.fault.RunFault.TheVariants as running
 use Rattle.om_run_commands.proofs.RunLemmas.{ok_at}

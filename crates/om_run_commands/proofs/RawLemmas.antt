@@ -17,8 +17,8 @@ use Rattle.om_scripts.specs.Programs.{programs_of}
 use Rattle.om_report.specs.declared.report.FollowedReport.{FollowedReport}
 use Rattle.om_report.specs.Reports.{IsToldReport}
 use Rattle.om_runner.specs.Telling.{AreInOrder, AreToldMade, Told, of_process}
-use Rattle.om_report.specs.declared.follower.FollowFault.{FollowFault}
-use Rattle.om_report.specs.declared.follower.FollowFault.TheVariants.{Run, Unwanted}
+use Rattle.om_following.specs.declared.follower.FollowFault.{FollowFault}
+use Rattle.om_following.specs.declared.follower.FollowFault.TheVariants.{Run, Unwanted}
 use Rattle.om_report.specs.declared.fault.RunFault.{RunFault}
 use Rattle.om_commands.specs.declared.error.CommandError.{CommandError}
 use Rattle.om_commands.specs.declared.error.CommandError.TheVariants as errors

@@ -22,7 +22,8 @@ pub use om_board::{
     TakePass, laws,
 };
 pub use om_cluster::{Config, Gate, OpenFault, Opener};
+pub use om_following::{FollowFault, Follower};
 pub use om_observers::{Act, Doing, Letter, Progress, Record, Scribe, Sight, Watch};
-pub use om_report::{FollowFault, Follower, Report, RunFault};
+pub use om_report::{Report, RunFault};
 pub use om_worker_parts::IDLE_TURNS;
 pub use watched::Watched;

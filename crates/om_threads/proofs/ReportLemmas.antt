@@ -27,12 +27,12 @@ use Rattle.om_threads.specs.declared.results.Parts.{Parts}
 use Rattle.om_threads.specs.steps.Ends.{AreEndsOf, AreParts}
 use Rattle.om_cluster.specs.Ends.{IsEndOf}
 use Rattle.om_report.specs.Harvests.{AreOwn, HarvestState, harvested}
-use Rattle.om_report.specs.Following.{AreAllCopied, AreTold, IsTold, copied_of, fresh_of}
+use Rattle.om_following.specs.Following.{AreAllCopied, AreTold, IsTold, copied_of, fresh_of}
 use Rattle.om_report.specs.Telling.{AreToldWithin, Told, of_process}
-use Rattle.om_report.specs.declared.followed_outputs.FollowedOutputs.{FollowedOutputs}
-use Rattle.om_report.specs.declared.follower.FollowFault.{FollowFault}
+use Rattle.om_following.specs.declared.followed_outputs.FollowedOutputs.{FollowedOutputs}
+use Rattle.om_following.specs.declared.follower.FollowFault.{FollowFault}
 use Rattle.om_report.specs.declared.report.FollowedReport.{FollowedReport}
-use Rattle.om_report.proofs.FollowLemmas.{none_of, told_to_end, told_within}
+use Rattle.om_following.proofs.FollowLemmas.{none_of, told_to_end, told_within}
 use Rattle.om_links.specs.Network.{ArePuts, AreTakes, IsNetwork, Lines}
 use Rattle.om_threads.specs.steps.Settling.{ArePasses}
 use Rattle.om_links.specs.Wiring.{HasEnds, IsWired}

@@ -1,11 +1,11 @@
 use Rattle.std.proofs.Common.{◌≡◌, ◌≢◌, ◌∙◌, ℕ, List, length, ap, subst, sym}
 use Rattle.std.specs.Prelude.{IfErr}
 use Rattle.om_board.specs.CellNames.{CellName}
-use Rattle.om_report.proofs.FollowLemmas.{told_at_start}
+use Rattle.om_following.proofs.FollowLemmas.{told_at_start}
 use Rattle.om_process.specs.Process.{Program}
 use Rattle.om_report.specs.Telling.{AreInOrder, AreToldMade, Told}
-use Rattle.om_report.specs.declared.follower.FollowFault.TheVariants.{Unwanted}
-use Rattle.om_report.specs.Following.{IsTold}
+use Rattle.om_following.specs.declared.follower.FollowFault.TheVariants.{Unwanted}
+use Rattle.om_following.specs.Following.{IsTold}
 use Rattle.om_threads.proofs.followed.run_named.Goals as goal
 
 pub returns-clause-told : goal.returns-clause-told
