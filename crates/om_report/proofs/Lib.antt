@@ -1,2 +1,3 @@
 pub mod HarvestLemmas
 pub mod ReleasedLemmas
+pub mod LockLemmas

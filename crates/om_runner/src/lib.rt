@@ -24,6 +24,6 @@ pub use om_board::{
 pub use om_cluster::{Config, Gate, OpenFault, Opener};
 pub use om_following::{FollowFault, Follower};
 pub use om_observers::{Act, Doing, Letter, Progress, Record, Scribe, Sight, Watch};
+pub use om_pacing::IDLE_TURNS;
 pub use om_report::{Report, RunFault};
-pub use om_worker_parts::IDLE_TURNS;
 pub use watched::Watched;

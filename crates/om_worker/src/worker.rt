@@ -20,15 +20,14 @@ use om_interval::Pid;
 use om_links::{Ends, Links, Taken};
 use om_node::{Kept, Node, WorkerFault};
 use om_observers::{Diary, Observers, Past, Sight, Watch};
+use om_pacing::{Barrier, Idle, Pause, SpinPolicy};
 use om_process::{Accept, ProcCore, Status, Witness};
 use om_report::Harvest;
 use om_restart::Found;
 use om_stable::{Ledger, Stable};
 use om_storing::Storing;
 use om_tickets::Series;
-use om_worker_parts::{
-    Barrier, Idle, ManagerLink, ManagerPhase, Pause, SpinPolicy, TurnOutcome, WorkerState,
-};
+use om_worker_parts::{ManagerLink, ManagerPhase, TurnOutcome, WorkerState};
 use std::alloc::Global;
 use std::sync::Wait;
 use std::time::Clock;

@@ -1,15 +1,12 @@
 -- What a worker does with the board.
-use Rattle.std.proofs.Common.{◌≡◌, ◌↔◌, ℕ, All, List, Option, None, Some, Bool, IsTrue, ap, ◌∙◌, false, refl, slice_index_or, subst, sym, true, length, take, drop, Ok, Err}
-use Rattle.std.specs.Prelude.{Any, IfNone, OnOk, Result, if◌then◌else◌, slice_get}
+use Rattle.std.proofs.Common.{◌≡◌, ◌↔◌, ℕ, List, Option, None, Some, Bool, IsTrue, ap, ◌∙◌, subst, sym, length, take, drop, Ok, Err}
+use Rattle.std.specs.Prelude.{Any, IfNone, OnOk, Result, slice_get}
 use Rattle.std.proofs.lemmas.Option.{same_Some}
 use Rattle.std.proofs.Math.Seq.{drop-length, take-length}
 use Rattle.std.proofs.lemmas.List.{length-map}
-use Rattle.std.proofs.lemmas.List.Elements.{All-map}
 use Rattle.om_process.specs.Core.{CoreState, with_pending}
 use Rattle.om_process.specs.Process.{Program}
 use Rattle.om_process.specs.declared.row.PendingRow.{PendingRow}
-use Rattle.om_recover.specs.Records.{checkpoint_of, log_of}
-use Rattle.om_recover.specs.declared.row.Row.{Row}
 use Rattle.om_board.specs.Made.{IsMade, IsOutputOf}
 use Rattle.om_board.specs.Boards.{BoardState}
 use Rattle.om_manager.specs.Rounds.{Joining}
@@ -17,18 +14,11 @@ use Rattle.om_manager.specs.declared.answers.Gathered.{Gathered}
 use Rattle.om_manager.specs.State.{ManagerState, held_by}
 use Rattle.om_member.specs.Handed.{AreHanded, AreHandedUpTo, outputs_from}
 use Rattle.om_member.specs.Keeps.{Keeps}
-use Rattle.om_member.specs.Told.{IsToldAtOnce, row_for, rows_for}
+use Rattle.om_member.specs.Told.{IsToldAtOnce, row_for}
 use Rattle.om_member.proofs.KeepLemmas.{keeps_then}
 use Rattle.om_worker_parts.specs.Acts.{HasHandedOver}
 use Rattle.om_node.specs.Nodes.{AreAlwaysClean, Member, TakesFrom}
 use Rattle.om_worker_parts.specs.Places.{IsProcessOf}
-
--- rows of a process, as the manager is told them, are of the process
-pub rows_of_own : (p : ℕ) (rows : List PendingRow) → All (λ (row : Row). row.pid ≡ p) (rows_for p rows)
-rows_of_own p rows = All-map (λ (row : Row). row.pid ≡ p) (row_for p) rows (λ k d within. own_pid (slice_index_or rows k d))
-  where
-    own_pid : (row : PendingRow) → (row_for p row).pid ≡ p
-    own_pid row = elim row.ckpt as (λ b. (if b then checkpoint_of p row.x row.vec row.got else log_of p row.x row.vec row.got).pid ≡ p) [ true ↦ refl | false ↦ refl ]
 
 -- what holds, holds where the result is well
 pub on_any : {A E P : Type 0} (r : Result A E) → P → OnOk r P

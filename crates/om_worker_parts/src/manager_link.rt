@@ -12,14 +12,13 @@ ghost use Rattle.om_worker_parts.specs.Acts.{AreLimits, HasDeclared, HasHandedOv
 ghost use Rattle.om_report.specs.Locks.{UnderLock};
 ghost use Rattle.om_worker_parts.specs.Places.{IsProcessOf};
 
-use crate::locked_board::LockedBoard;
 use om_board::{Board, Front, Naming, Pass, Shared};
 use om_interval::{Bounds, Pid, Starts, Verdict};
 use om_member::ManagerAccess;
 use om_node::{Limits, Node, WorkerFault};
 use om_observers::Diary;
 use om_process::{Made, PendingRow, ProcCore};
-use om_report::Harvest;
+use om_report::{Harvest, LockedBoard};
 use om_stable::Stable;
 use om_take_up::take_up;
 use om_tickets::Series;

@@ -22,9 +22,9 @@ use Rattle.om_process.specs.declared.status.Status.TheVariants as statuses
 use Rattle.om_worker_parts.specs.declared.manager_link.ManagerPhase.TheVariants as phases
 use Rattle.om_worker_parts.specs.declared.worker_state.WorkerState.{WorkerState}
 use Rattle.om_worker_parts.specs.declared.worker_state.WorkerState.TheVariants.{Up, MustJoin, Joined, Failed, Down, AllQuiet}
-use Rattle.om_worker_parts.specs.declared.idle.Pause.{Pause}
-use Rattle.om_worker_parts.specs.declared.idle.Pause.TheVariants.{Woken, Slept}
-use Rattle.om_worker_parts.specs.declared.idle.TheConstants.{IDLE_TURNS}
+use Rattle.om_pacing.specs.declared.idle.Pause.{Pause}
+use Rattle.om_pacing.specs.declared.idle.Pause.TheVariants.{Woken, Slept}
+use Rattle.om_pacing.specs.declared.idle.TheConstants.{IDLE_TURNS}
 use Rattle.om_worker.specs.declared.worker.TheConstants.{ALL_TURNS}
 use Rattle.om_worker_parts.specs.Acts.{HasDeclared, HasHeard, HasJoined, HasMet, HasWaited, HasWithdrawn}
 use Rattle.om_report.specs.Locks.{UnderLock}

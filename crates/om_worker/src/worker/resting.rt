@@ -6,7 +6,7 @@ ghost use Rattle.om_worker.specs.steps.Turning.{HasRested, pause_turns};
 use super::{ALL_TURNS, Worker};
 use om_board::{Naming, SpinOutcome};
 use om_links::Links;
-use om_worker_parts::{Idle, Pause, SpinPolicy};
+use om_pacing::{Idle, Pause, SpinPolicy};
 use std::sync::Wait;
 use std::time::Clock;
 

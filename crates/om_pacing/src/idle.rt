@@ -1,7 +1,7 @@
 //! The turns of a worker in which nothing happens.
 
 ghost use Rattle.std.specs.Prelude.{◌≡◌, ◌≤◌, ◌<◌, ◌↔◌, ◌+◌, ◌-◌, ◌*◌, min, IsTrue};
-ghost use Rattle.om_worker_parts.specs.declared.idle.TheConstants.{FIRST_SLEEP, IDLE_TURNS, LONGEST_SLEEP};
+ghost use Rattle.om_pacing.specs.declared.idle.TheConstants.{FIRST_SLEEP, IDLE_TURNS, LONGEST_SLEEP};
 
 /// After how many turns in which nothing happened a worker resends the messages that are kept.
 pub const IDLE_TURNS: u32 = 1_024;

@@ -1,7 +1,7 @@
 //! Whether a worker that has nothing to do yields before it sleeps.
 
 ghost use Rattle.std.specs.Prelude.{◌≡◌, ◌≤◌, ◌↔◌, ◌-◌, ◌*◌, min, IsTrue};
-ghost use Rattle.om_worker_parts.specs.declared.spin_policy.TheConstants.{FEWEST_RESTS, MOST_RESTS};
+ghost use Rattle.om_pacing.specs.declared.spin_policy.TheConstants.{FEWEST_RESTS, MOST_RESTS};
 
 /// In how many waits a worker sleeps at once, after a yield that gave a time slice away: twice as many each time, unless a yield was
 /// worth while in between.
