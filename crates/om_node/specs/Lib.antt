@@ -1,7 +1,6 @@
 pub mod Ends
 pub mod Flying
 pub mod Holding
-pub mod Keeping
 pub mod Nodes
 pub mod Storing
 pub mod Stores

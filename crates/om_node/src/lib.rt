@@ -14,7 +14,7 @@ mod transaction;
 mod worker_fault;
 
 pub use flying::{FarEnds, FlightChannel, Landing, WriteRequest, flight_channel, write_all};
-pub use keeping::{Deposit, Due, Kept, Limits, NewRows};
+pub use keeping::{Deposit, Due, Limits, NewRows};
 pub use node::{DownNode, Node};
 pub use transaction::{SentStore, Transaction};
 pub use worker_fault::WorkerFault;

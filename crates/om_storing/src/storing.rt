@@ -7,7 +7,8 @@ ghost use Rattle.om_process.specs.Trims.{trimmed};
 ghost use Rattle.om_node.specs.Storing.{HasStored};
 ghost use Rattle.om_storing.specs.Receipts.{HasStoredBy, is_multiple_of};
 
-use om_node::{Deposit, Due, Kept, Landing, Limits, Node, Transaction, WorkerFault};
+use crate::kept::Kept;
+use om_node::{Deposit, Due, Landing, Limits, Node, Transaction, WorkerFault};
 use om_observers::Diary;
 use om_process::PendingRow;
 use om_stable::{Ledger, Stable};

@@ -1,6 +1,6 @@
 use Rattle.std.proofs.Common.{subst, is_some}
 use Rattle.std.specs.Prelude.{Option}
-use Rattle.om_node.specs.declared.keeping.Kept.{Kept}
+use Rattle.om_storing.specs.declared.kept.Kept.{Kept}
 use Rattle.om_storing.specs.Receipts.{HasStoredBy}
 use Rattle.om_worker.proofs.worker.Worker.after_receipt.Goals as goal
 
