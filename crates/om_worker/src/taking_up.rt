@@ -9,11 +9,11 @@ ghost use Rattle.om_process.specs.Images.{program_of};
 ghost use Rattle.om_node.specs.Stores.{AreNeverClean};
 ghost use Rattle.om_report.specs.Faults.{IsFaultBy};
 ghost use Rattle.om_node.specs.Nodes.{AreAlwaysClean};
-ghost use Rattle.om_worker.specs.steps.Refusals.{refusal_of_found, refusal_of_opening};
+ghost use Rattle.om_worker.specs.steps.Refusals.{refusal_of_found};
 
 use crate::worker::Worker;
 use om_board::Naming;
-use om_cluster::{Census, Cluster, OpenFault, StoreMaker};
+use om_cluster::{Census, Cluster, StoreMaker, load_fault, open_fault, run_fault};
 use om_interval::{MAX_PROCESSES, Pid};
 use om_look::about_of;
 use om_node::{DownNode, FlightChannel};
@@ -22,7 +22,6 @@ use om_report::RunFault;
 use om_restart::{FindFault, Found, find};
 use om_stable::{Ledger, LedgerTable, StoreError};
 use om_tickets::Series;
-use om_worker_parts::{load_fault, run_fault};
 use std::alloc::{AllocError, Global};
 use std::sync::Wait;
 use std::sync::atomic::AtomicU64;
@@ -61,18 +60,6 @@ fn found_fault(fault: FindFault, pid: Pid) -> RunFault
         | FindFault::Output(_)
         | FindFault::Senders(_)
         | FindFault::Fault => RunFault::Fault(pid),
-    }
-}
-
-// Returns why a store was not made, as the run's caller is told.
-pub(crate) fn open_fault(fault: OpenFault, pid: Pid) -> RunFault
-    ensures named { result ≡ refusal_of_opening fault pid }
-    ensures fault { IsFaultBy pid result }
-{
-    match fault {
-        OpenFault::Memory => RunFault::Memory,
-        OpenFault::Refused => RunFault::Load(pid),
-        OpenFault::InUse => RunFault::StoreInUse(pid),
     }
 }
 

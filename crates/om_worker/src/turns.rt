@@ -10,13 +10,13 @@ ghost use Rattle.om_worker_parts.specs.Places.{IsProcessOf, IsLanded, member_of}
 
 use crate::worker::Worker;
 use om_board::{Naming, Pass};
-use om_cluster::Finished;
+use om_cluster::{Finished, run_fault};
 use om_node::Node;
 use om_process::Status;
 use om_report::{Harvest, RunFault};
 use om_stable::{Ledger, Stable};
 use om_tickets::Series;
-use om_worker_parts::{WorkerState, run_fault};
+use om_worker_parts::WorkerState;
 use std::alloc::Global;
 use std::sync::Wait;
 use std::sync::atomic::AtomicBool;

@@ -6,13 +6,10 @@
 //!
 //! - `worker_state`: where the process of a worker stands
 //! - `manager_link`: what a worker does with the board, under its lock (`LockedBoard` of om_report)
-//! - `worker_fault`: what a run's caller is told when a worker stops
 #![tactic(auto)]
 
 mod manager_link;
-mod worker_fault;
 mod worker_state;
 
 pub use manager_link::{ManagerLink, ManagerPhase, RoundOutcome};
-pub use worker_fault::{load_fault, run_fault};
 pub use worker_state::{TurnOutcome, WorkerState};
