@@ -4,7 +4,6 @@ use om_manager::{FailError, JoinError, OutputError, RecordError};
 use om_process::ReplayFault;
 use om_recover::NoteError;
 use om_stable::StoreError;
-use om_take_up::TakeUpFault;
 use std::alloc::AllocError;
 
 /// Why a worker cannot go on.
@@ -72,15 +71,6 @@ impl From<JoinError> for WorkerFault {
         match error {
             JoinError::Memory => WorkerFault::Memory,
             _ => WorkerFault::Refused,
-        }
-    }
-}
-
-impl From<TakeUpFault> for WorkerFault {
-    fn from(fault: TakeUpFault) -> WorkerFault {
-        match fault {
-            TakeUpFault::Row(error) => error.into(),
-            TakeUpFault::Output(error) => error.into(),
         }
     }
 }

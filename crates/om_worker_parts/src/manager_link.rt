@@ -20,7 +20,7 @@ use om_observers::Diary;
 use om_process::{Made, PendingRow, ProcCore};
 use om_report::{Harvest, LockedBoard};
 use om_stable::Stable;
-use om_take_up::take_up;
+use om_take_up::{TakeUpFault, take_up};
 use om_tickets::Series;
 use std::alloc::Global;
 use std::sync::atomic::Ordering::SeqCst;
@@ -75,6 +75,14 @@ fn have_checkpoint(rows: &[PendingRow]) -> bool
 // Returns whether one of them is a receipt's.
 fn have_receipt(rows: &[PendingRow]) -> bool {
     rows.iter().any(|row| !row.ckpt)
+}
+
+// Returns why a worker cannot go on whose manager did not take what its store held.
+fn fault_of_taking_up(fault: TakeUpFault) -> WorkerFault {
+    match fault {
+        TakeUpFault::Row(error) => error.into(),
+        TakeUpFault::Output(error) => error.into(),
+    }
 }
 
 impl<'a, K: Naming> ManagerLink<'a, K> {
@@ -413,8 +421,10 @@ impl<'a, K: Naming> ManagerLink<'a, K> {
     {
         // The look tells what holds of every board.
         let _ = locked.board.manager();
-        take_up(locked, alloc, self.pid, self.round, rows, outputs)?;
-        Ok(())
+        match take_up(locked, alloc, self.pid, self.round, rows, outputs) {
+            Ok(()) => Ok(()),
+            Err(fault) => Err(fault_of_taking_up(fault)),
+        }
     }
 
     /// Tells the manager under the board's lock what the store of the process held: rows, and released outputs. Refused where the
