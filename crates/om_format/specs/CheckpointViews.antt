@@ -6,16 +6,6 @@ use Rattle.om_format.specs.declared.queue.Queue.{Queue}
 use Rattle.om_format.specs.Queues.{queue_record}
 use Rattle.om_format.specs.Checkpoints.{CheckpointRecord}
 
--- a checkpoint without where it lies in memory
-abbrev pub checkpoint_record : Checkpoint → CheckpointRecord
-checkpoint_record c = record {
-  n = length c.head.vec;
-  head = c.head;
-  memory = c.memory;
-  kept = map queue_record c.kept.items;
-  outputs = queue_record c.outputs;
-}
-
 -- the checkpoint of these parts: its head, its memory, the messages that are kept, by receiver, and the outputs
 abbrev pub record_of_parts : Head → List ℕ → List Queue → Queue → CheckpointRecord
 record_of_parts head memory kept outputs = record {
@@ -25,3 +15,7 @@ record_of_parts head memory kept outputs = record {
   kept = map queue_record kept;
   outputs = queue_record outputs;
 }
+
+-- a checkpoint without where it lies in memory
+abbrev pub checkpoint_record : Checkpoint → CheckpointRecord
+checkpoint_record c = record_of_parts c.head c.memory c.kept.items c.outputs

@@ -28,10 +28,7 @@ width eight = w64
 
 -- numbers of that size are below this
 abbrev pub limit : Size → ℕ
-limit one = 2 ^ 8
-limit two = 2 ^ 16
-limit four = 2 ^ 32
-limit eight = 2 ^ 64
+limit size = 2 ^ (8 * bytes_in size)
 
 -- The fields that are still to come. A field is so many numbers of one size. Which values are allowed, and which fields
 -- come behind it, may depend on the values before. A forbidden value is a fault that tells the offset of its field.

@@ -12,7 +12,7 @@ use Rattle.std.specs.Option.{ok_or}
 use Rattle.om_text.specs.Reading.{◌>>=◌, all_read}
 use Rattle.om_text.specs.declared.error.LineError.TheVariants as LineError
 use Rattle.om_text.proofs.Readings.{all_read_cons}
-use Rattle.om_image.specs.Image.{word_text}
+use Rattle.om_look.specs.Trace.{word_text}
 
 -- the digits, by their values
 pub record IsDigit (d : ℕ) : Type 0 where

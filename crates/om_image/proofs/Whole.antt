@@ -21,7 +21,8 @@ use Rattle.om_text.specs.declared.error.BuildError.TheVariants as building
 use Rattle.om_text.specs.declared.error.LineError.{LineError}
 use Rattle.om_scripts.specs.Programs.{Cluster, no_programs, program_in, program_line}
 use Rattle.om_scripts.proofs.ImageLemmas.{length-words}
-use Rattle.om_image.specs.Image.{IsElf, IsErrorOf, IsImageLine, IsRefused, keyword, most_read, word_text}
+use Rattle.om_image.specs.Image.{IsElf, IsErrorOf, IsImageLine, IsRefused, keyword, most_read}
+use Rattle.om_look.specs.Trace.{word_text}
 use Rattle.om_image.specs.declared.error.ImageError.{ImageError}
 use Rattle.om_image.specs.declared.error.ImageError.TheVariants as errors
 use Rattle.om_image.specs.steps.Lines.{IsErrorOfLine, IsTaken, spaced}

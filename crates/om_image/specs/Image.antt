@@ -1,11 +1,11 @@
 -- The `program` line of a raw image.
 use Rattle.std.specs.Prelude.{◌≡◌, ◌≢◌, ℕ, ◌+◌, ◌<◌, List, [], ◌∷◌, ◌++◌, codes, flat_map, map, replicate, take, Some, Ok, Err}
-use Rattle.std.specs.Int.{to_be_bytes, to_le_bytes, w32}
+use Rattle.std.specs.Int.{to_le_bytes, w32}
 use Rattle.std.specs.Str.Lines.{lines}
-use Rattle.hex.specs.Hex.{encode_lower}
 use Rattle.om_isa.specs.declared.memory.TheConstants.{MAX_MEMORY}
 use Rattle.om_isa.specs.declared.ext.Ext.{Ext}
 use Rattle.om_isa.specs.declared.ext.Ext.TheVariants.{I, Im}
+use Rattle.om_look.specs.Trace.{word_text}
 use Rattle.om_process.specs.Process.{Program}
 use Rattle.om_text.specs.Numbers.{number_of}
 use Rattle.om_text.specs.Words.{words_of}
@@ -13,10 +13,6 @@ use Rattle.om_text.specs.declared.error.LineError.{LineError}
 use Rattle.om_scripts.specs.Programs.{no_programs, program_line}
 use Rattle.om_image.specs.declared.error.ImageError.{ImageError}
 use Rattle.om_image.specs.declared.error.ImageError.TheVariants as errors
-
--- a word of the machine in eight hexadecimal digits, the highest first
-abbrev pub word_text : ℕ → List ℕ
-word_text word = encode_lower (to_be_bytes w32 word)
 
 -- the bytes, and fewer than four zeros behind them
 abbrev pub IsPadded : List ℕ → List ℕ → Type 0

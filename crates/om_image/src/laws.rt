@@ -2,7 +2,7 @@
 
 ghost use Rattle.std.specs.Prelude.{◌≡◌, ℕ, ◌<◌, ◌^◌, List, All, map, Some, Ok};
 ghost use Rattle.om_text.specs.Numbers.{hex_word};
-ghost use Rattle.om_image.specs.Image.{word_text};
+ghost use Rattle.om_look.specs.Trace.{word_text};
 ghost use Rattle.om_text.specs.Reading.{all_read};
 ghost use Rattle.om_text.specs.declared.error.LineError.TheVariants.{BadWord};
 

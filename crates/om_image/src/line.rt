@@ -2,7 +2,8 @@
 
 ghost use Rattle.std.specs.Prelude.{◌≡◌, ◌≤◌, ◌↔◌, ◌∷◌, ◌++◌, [], IfOk, IfErr, IsTrue, OnOk, length, map, string_bytes};
 ghost use Rattle.om_isa.specs.declared.memory.TheConstants.{MAX_MEMORY};
-ghost use Rattle.om_image.specs.Image.{IsElf, IsImageLine, keyword, word_text};
+ghost use Rattle.om_image.specs.Image.{IsElf, IsImageLine, keyword};
+ghost use Rattle.om_look.specs.Trace.{word_text};
 ghost use Rattle.om_image.specs.steps.Lines.{IsErrorOfLine, IsTaken, spaced};
 
 use crate::error::ImageError;

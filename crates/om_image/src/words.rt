@@ -2,7 +2,7 @@
 
 ghost use Rattle.std.specs.Prelude.{◌≡◌, ◌+◌, ◌≤◌, ◌<◌, ◌^◌, All, IfOk, length, map, slice_range, string_bytes};
 ghost use Rattle.std.specs.Int.{to_le_bytes, w32};
-ghost use Rattle.om_image.specs.Image.{word_text};
+ghost use Rattle.om_look.specs.Trace.{word_text};
 ghost use Rattle.om_image.specs.steps.Padded.{AreWholeWordsOf, AreWordsOf, IsWholePadded};
 
 use std::alloc::{AllocError, Global};

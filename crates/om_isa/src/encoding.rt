@@ -2,7 +2,7 @@
 
 ghost use Rattle.std.specs.Prelude.{◌≡◌, ℕ, ◌*◌, ◌^◌, ◌<◌};
 ghost use Rattle.om_isa.specs.Rows.{Decodes, Fits};
-ghost use Rattle.om_isa.specs.Words.{IsR, IsI, IsShift, IsS, IsB, IsU, IsJ, IsFence};
+ghost use Rattle.om_isa.specs.Words.{IsR, IsI, IsS, IsB, IsU, IsJ, IsFence};
 
 use crate::ext::Ext;
 use crate::fields::{FenceBits, Imm12, Off13, Off21, Reg, Shamt, Upper};
@@ -60,8 +60,8 @@ fn word_shift(opcode: u32, funct3: u32, funct7: u32, rd: Reg, rs1: Reg, shamt: S
     requires opcode_fits { opcode < 2 ^ 7 }
     requires funct3_fits { funct3 < 2 ^ 3 }
     requires funct7_fits { funct7 < 2 ^ 7 }
-    ensures is { IsShift result opcode funct3 funct7 rd rs1 shamt }
-    ensures only { (w : ℕ) → IsShift w opcode funct3 funct7 rd rs1 shamt → w ≡ result }
+    ensures is { IsR result opcode funct3 funct7 rd rs1 shamt }
+    ensures only { (w : ℕ) → IsR w opcode funct3 funct7 rd rs1 shamt → w ≡ result }
 {
     let registers = place(rd.value().into(), 7) + place(rs1.value().into(), 15);
     opcode + place(funct3, 12) + place(funct7, 25) + registers + place(shamt.value().into(), 20)

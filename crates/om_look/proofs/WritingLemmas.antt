@@ -1,6 +1,6 @@
 -- What the tracer says that an instruction writes is what its effect writes, unless the instruction traps.
 use Rattle.std.proofs.Common.{◌≡◌, ◌≢◌, ℕ, ◌+◌, Bool, true, false, Option, Some, None, Result, Ok, Err, List, [], ◌∷◌, ◌++◌, refl, sym, ap, ◌∙◌, subst}
-use Rattle.std.specs.Prelude.{decimal, if◌then◌else◌, nat_eq, ℤ}
+use Rattle.std.specs.Prelude.{option_map_or, decimal, if◌then◌else◌, nat_eq, ℤ}
 use Rattle.std.specs.Int.{bytes_low_first}
 use Rattle.om_isa.specs.Rows.{Decodes}
 use Rattle.om_isa.specs.Text.{text_of}
@@ -9,7 +9,7 @@ use Rattle.om_isa.specs.declared.inst.Inst.TheVariants.{Jal, Jalr, Beq, Bne, Blt
 use Rattle.om_isa.specs.derived.Decoded.{decoded}
 use Rattle.om_isa.proofs.DecodedLemmas.{decodes-decoded}
 use Rattle.om_machine.specs.State.{State, reg, word_at}
-use Rattle.om_machine.specs.Effects.{Effect, Put, Go, Jump, Store, Nothing, Stop, branch_effect, jump_effect, access_effect, unless, call_effect, address_of, effect_of, applied}
+use Rattle.om_machine.specs.Effects.{Effect, Put, Go, Jump, Store, Nothing, Stop, branch_effect, jump_effect, access_effect, call_effect, address_of, effect_of, applied}
 use Rattle.om_machine.specs.derived.NextStep.{fetched, next_of}
 use Rattle.om_machine.specs.declared.event.Event.{Event}
 use Rattle.om_machine.specs.declared.event.Event.TheVariants.{Went, Call, Trap}
@@ -50,7 +50,7 @@ agrees_jump : (after : State) (rd target : ℕ) → Agrees (written_text (Regist
 unfolding jump_effect Agrees
 agrees_jump after rd target = agrees_if (written_text (Register rd) 0 after) after _ (Jump rd target) (Stop (Trap TargetMisaligned)) refl tt
 
-agrees_unless : (text : List ℕ) (after : State) (fault : Option Cause) (effect : Effect) → Agrees text after effect → Agrees text after (unless fault effect)
+agrees_unless : (text : List ℕ) (after : State) (fault : Option Cause) (effect : Effect) → Agrees text after effect → Agrees text after (option_map_or (λ cause. Stop (Trap cause)) fault effect)
 agrees_unless text after None effect agrees = agrees
 agrees_unless text after (Some cause) effect agrees = agrees_trap text after cause
 

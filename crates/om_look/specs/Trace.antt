@@ -1,5 +1,5 @@
 -- Traces: a line for each turn of a process, and one for each message and output.
-use Rattle.std.specs.Prelude.{◌≡◌, ℕ, zero, suc, ◌+◌, List, [], ◌∷◌, ◌++◌, length, take, drop, codes, decimal, slice_get, Option, Some, None, if◌then◌else◌, nat_eq, nat_lt}
+use Rattle.std.specs.Prelude.{◌≡◌, ℕ, zero, suc, ◌+◌, List, [], ◌∷◌, ◌++◌, length, take, drop, codes, decimal, slice_get, Some, option_map_or, if◌then◌else◌, nat_eq, nat_lt}
 use Rattle.std.specs.Int.{to_be_bytes, w32}
 use Rattle.hex.specs.Hex.{encode_lower}
 use Rattle.om_isa.specs.Rows.{Decodes}
@@ -11,7 +11,6 @@ use Rattle.om_machine.specs.derived.NextStep.{next_of}
 use Rattle.om_machine.specs.declared.event.Event.{Event}
 use Rattle.om_machine.specs.declared.event.Event.TheVariants.{Call}
 use Rattle.om_machine.specs.declared.event.EnvCall.TheVariants.{Send, Output, Who}
-use Rattle.om_format.specs.declared.queue.QueueEntry.{QueueEntry}
 use Rattle.om_format.specs.Queues.{QueueRecord}
 use Rattle.om_process.specs.Kept.{queue_at}
 use Rattle.om_process.specs.Process.{Process}
@@ -51,13 +50,10 @@ abbrev pub body_text : List ℕ → List ℕ
 body_text [] = codes "-"
 body_text (byte ∷ bytes) = encode_lower (byte ∷ bytes)
 
--- the line of an entry that a queue has gained, with its number, if it has
-abbrev pub entry_text : List ℕ → ℕ → Option QueueEntry → List ℕ
-entry_text words number None = []
-entry_text words number (Some e) = words ++ 32 ∷ decimal number ++ 32 ∷ body_text e.body ++ 10 ∷ []
-
+-- the line of the entry that a queue has gained behind so many, with its number, if it has
 abbrev pub gained_text : List ℕ → ℕ → QueueRecord → List ℕ
-gained_text words kept after = entry_text words (after.first + kept) (slice_get after.entries kept)
+gained_text words kept after = option_map_or (λ e. words ++ 32 ∷ decimal (after.first + kept) ++ 32 ∷ body_text e.body ++ 10 ∷ [])
+    (slice_get after.entries kept) []
 
 -- the line of the message or the output that a call of a process of n made, if it made one
 abbrev pub emission_text : ℕ → Event → List QueueRecord → List QueueRecord → List ℕ

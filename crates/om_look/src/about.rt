@@ -2,7 +2,8 @@
 
 ghost use Rattle.std.specs.Prelude.{◌≡◌, ◌≤◌, IfOk};
 ghost use Rattle.om_interval.specs.declared.pid.TheConstants.{MAX_PROCESSES};
-ghost use Rattle.om_look.specs.About.{about, extension};
+ghost use Rattle.om_look.specs.About.{about};
+ghost use Rattle.om_machine.specs.State.{number_of_ext};
 ghost use Rattle.om_process.specs.Images.{program_of};
 
 use om_interval::Pid;
@@ -36,7 +37,7 @@ pub fn about_of(alloc: Global, own: Pid, n: usize, image: &Image) -> Result<Vec<
 }
 
 fn extension_of(ext: Ext) -> u8
-    ensures { result ≡ extension ext }
+    ensures { result ≡ number_of_ext ext }
 {
     match ext {
         Ext::I => 0,

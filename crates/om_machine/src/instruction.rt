@@ -1,8 +1,9 @@
 //! What instructions do: one expansion of the list of rows, at the registers, pc and memory as they are.
 
 ghost use Rattle.std.specs.Prelude.{◌≡◌, ◌+◌, ◌%◌, ◌<◌, ◌≤◌, IfNone, length};
+ghost use Rattle.std.specs.Int.{w8, w16};
 ghost use Rattle.om_machine.specs.State.{reg, byte_at, half_at, word_at};
-ghost use Rattle.om_machine.specs.Effects.{branch_effect, address_of, jump_effect, access_fault, signed_byte_at, signed_half_at, load_effect, store_effect, call_effect, effect_of, applied};
+ghost use Rattle.om_machine.specs.Effects.{branch_effect, address_of, jump_effect, access_fault, signed_at, load_effect, store_effect, call_effect, effect_of, applied};
 ghost use Rattle.om_machine.specs.steps.Told.{told, CanHave, event_of};
 
 use crate::effect::EffectNow;
@@ -145,7 +146,7 @@ impl Machine {
 
     #[tactic(auto, unfolding(crate::specs::Effects::access_effect))]
     fn load_byte(&self, rd: Reg, address: u32) -> EffectNow
-        ensures effect { told self.now result ≡ load_effect self.now rd 1 signed_byte_at address }
+        ensures effect { told self.now result ≡ load_effect self.now rd 1 (signed_at w8 byte_at) address }
         ensures can { CanHave self.now result }
     {
         match self.access_fault(1, address) {
@@ -159,7 +160,7 @@ impl Machine {
 
     #[tactic(auto, unfolding(crate::specs::Effects::access_effect))]
     fn load_half(&self, rd: Reg, address: u32) -> EffectNow
-        ensures effect { told self.now result ≡ load_effect self.now rd 2 signed_half_at address }
+        ensures effect { told self.now result ≡ load_effect self.now rd 2 (signed_at w16 half_at) address }
         ensures can { CanHave self.now result }
     {
         match self.access_fault(2, address) {

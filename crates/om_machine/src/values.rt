@@ -1,7 +1,8 @@
 //! The values and the conditions of instructions, of two operands each.
 
 ghost use Rattle.std.specs.Prelude.{◌≡◌, nat_eq, nat_lt, not, bit_and, bit_or, bit_xor};
-ghost use Rattle.om_machine.specs.Values.{plus, minus, one_if, is_below_signed, shifted_left, shifted_right, shifted_right_signed, without_bit_0, extended_byte, extended_half};
+ghost use Rattle.std.specs.Int.{w8, w16};
+ghost use Rattle.om_machine.specs.Values.{plus, minus, one_if, is_below_signed, shifted_left, shifted_right, shifted_right_signed, without_bit_0, extended};
 
 pub fn add(a: u32, b: u32) -> u32
     ensures { result ≡ plus a b }
@@ -106,13 +107,13 @@ pub fn clear_bit_0(a: u32) -> u32
 }
 
 pub fn extend_byte(byte: u8) -> u32
-    ensures { result ≡ extended_byte byte }
+    ensures { result ≡ extended w8 byte }
 {
     i32::from(byte.cast_signed()).cast_unsigned()
 }
 
 pub fn extend_half(half: u16) -> u32
-    ensures { result ≡ extended_half half }
+    ensures { result ≡ extended w16 half }
 {
     i32::from(half.cast_signed()).cast_unsigned()
 }

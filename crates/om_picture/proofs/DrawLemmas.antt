@@ -14,7 +14,7 @@ use Rattle.om_world.specs.declared.event.Answer.{Answer}
 use Rattle.om_world.specs.declared.event.Event.{Event}
 use Rattle.om_interval.specs.declared.pid.TheConstants.{MAX_PROCESSES}
 use Rattle.om_picture.specs.Drawing.{Edge, IsLaneOf, IsSketchOf, LaneState, Sketch, all_marks, held_in, held_of, lane_in, lane_marks, lane_of, lanes_marks, new_lane, waiting_marks}
-use Rattle.om_picture.specs.Fates.{EventRow, Fate, Progress, ended_after, fate_behind, fate_of, has_ended, has_loose, highest, interval_behind, is_of, next_ended, next_place, next_progress, progress_after, progress_behind, step_row}
+use Rattle.om_picture.specs.Fates.{EventRow, Fate, Progress, ended_after, fate_behind, has_ended, has_loose, highest, interval_behind, is_of, next_ended, next_place, next_progress, progress_after, progress_behind, step_row}
 use Rattle.om_picture.specs.Held.{Held, covered_by, held_behind, is_elsewhere, left_by, may_wait, releases, left_behind}
 use Rattle.om_picture.specs.Marks.{AreTheSame, EventMark, event_marks, is_reached, marks_among, marks_on, released_at, released_below, row_marks, shape_marks, sure_marks}
 use Rattle.om_picture.specs.Places.{ArePlaced, IsPlacedBehind, has_column, is_shown, rightmost, shows_on}
@@ -199,7 +199,8 @@ amid_shown n p before row a b count is within lanes s =
       ];
       marks = λ (later : List EventRow) (c : EventMark → ℕ).
           let sure : List EventMark = sure_marks (has_loose (lane_of a p).progress) sh row.entry in
-          let fate : Fate = fate_of p (interval_behind p (before ++ row ∷ [])) before (row ∷ later) in
+          let fate : Fate =
+          fate_behind p (interval_behind p (before ++ row ∷ [])) (highest p 0 before) (progress_behind p before) (row ∷ later) in
           let fated : List EventMark = fated_if sh row.fresh fate row.entry in
           let i_here : ℕ = (lane_of b p).progress.interval in
           let i_behind : ℕ = interval_behind p (before ++ row ∷ []) in

@@ -124,10 +124,6 @@ fate_behind p interval place was rows =
     let covered = not cut && nat_le interval (highest p place rows) in
     record { cut = cut; covered = covered; stored = covered || is_saved p interval place was rows }
 
--- what these events make of an interval that began or went on with the first of them, behind others
-abbrev pub fate_of : ℕ → ℕ → List EventRow → List EventRow → Fate
-fate_of p interval before rows = fate_behind p interval (highest p 0 before) (progress_behind p before) rows
-
 -- ---- the same, told by the event that did it
 -- a round is finished with one of these events, and no recovery state up to it had the process as high
 pub record IsCutBy (p interval was : ℕ) (rows : List EventRow) : Type 0 where

@@ -1,7 +1,7 @@
 -- Which marks stand for which events.
 use Rattle.std.specs.Prelude.{◌≡◌, ℕ, zero, suc, ◌==◌, Bool, false, if◌then◌else◌, is_some, nat_le, nat_lt, List, [], ◌∷◌, ◌++◌, Option, None, Some}
 use Rattle.std.specs.List.{flat_map, list_any, sum_by}
-use Rattle.om_picture.specs.Fates.{EventAt, EventRow, Fate, fate_of, has_ended, has_loose, interval_behind, progress_behind}
+use Rattle.om_picture.specs.Fates.{EventAt, EventRow, Fate, fate_behind, has_ended, has_loose, highest, interval_behind, progress_behind}
 use Rattle.om_picture.specs.Held.{may_wait, releases}
 use Rattle.om_sheet.specs.Shows.{process_of, shown}
 use Rattle.om_sheet.specs.declared.sheet.Drawn.{Drawn}
@@ -68,7 +68,7 @@ fated_marks _ fresh fate entry = mark_of glyphs.Dot fate.cut entry
 abbrev pub event_marks : ℕ → List EventRow → EventRow → List EventRow → List EventMark
 event_marks p before row later =
     let shows = shown (has_ended p before) row.entry.event row.entry.answer in
-    let fate = fate_of p (interval_behind p (before ++ row ∷ [])) before (row ∷ later) in
+    let fate = fate_behind p (interval_behind p (before ++ row ∷ [])) (highest p 0 before) (progress_behind p before) (row ∷ later) in
     sure_marks (has_loose (progress_behind p before)) shows row.entry
     ++ (if may_wait shows then fated_marks shows row.fresh fate row.entry else [])
 

@@ -16,7 +16,7 @@ use Rattle.om_world.proofs.Legal.{cut}
 use Rattle.om_world.proofs.Ordered.{depends_at, length-depends}
 use Rattle.om_world.proofs.Raising.{beyond, less}
 use Rattle.om_world.specs.Disk.{AreTrue, DependsWithin}
-use Rattle.om_world.specs.StoreRows.{HasRowsOf}
+use Rattle.om_take_up.specs.StoreRows.{HasRowsOf}
 use Rattle.om_world.proofs.TrueRows.{IsTrueOf, rows_are_true}
 
 -- ---- who sent what was received

@@ -8,7 +8,7 @@ use Rattle.om_recover.specs.Rows.{Rows}
 use Rattle.om_world.specs.Disk.{IsOnDisk, held_in}
 use Rattle.om_world.specs.Live.{program_at}
 use Rattle.om_world.specs.World.{WorldState, output_entry, recovered}
-use Rattle.om_world.specs.StoreRows.{HasRowsOf}
+use Rattle.om_take_up.specs.StoreRows.{HasRowsOf}
 use Rattle.om_restart_laws.specs.Worlds.{IsTakenUpAt}
 use Rattle.om_restart_laws.proofs.Closing.{cut_legal}
 use Rattle.om_restart_laws.proofs.Cutting.{cut_fact, cut_true}

@@ -9,7 +9,7 @@ use Rattle.om_world.specs.Disk.{IsOnDisk, held_in}
 use Rattle.om_world.specs.Live.{program_at, received}
 use Rattle.om_world.specs.World.{WorldState, output_entry, recovered}
 use Rattle.om_world.specs.declared.entry.Entry.{Entry}
-use Rattle.om_world.specs.StoreRows.{HasRowsOf}
+use Rattle.om_take_up.specs.StoreRows.{HasRowsOf}
 use Rattle.om_restart_laws.specs.Worlds.{left_of}
 
 -- what a start is told of the stores, and the state that it recovers

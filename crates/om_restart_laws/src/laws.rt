@@ -32,7 +32,7 @@ ghost use Rattle.om_restart_laws.specs.Runs.{AreRuns, Stop};
 ghost use Rattle.om_take_up.specs.Anew.{IsNew};
 ghost use Rattle.om_take_up.specs.Orders.{Act, AreOfEach, ComeInTurn, StartsOver};
 ghost use Rattle.om_take_up.specs.TakenUp.{RiseFrom};
-ghost use Rattle.om_world.specs.StoreRows.{HasRowsOf};
+ghost use Rattle.om_take_up.specs.StoreRows.{HasRowsOf};
 ghost use Rattle.om_restart_laws.specs.Worlds.{IsTakenUpAt};
 
 /// Proves that where the records of the stores are true of a run, so are the rows that they stand for: each row's vectors are the

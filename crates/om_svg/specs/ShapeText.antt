@@ -1,5 +1,5 @@
 -- The elements of a picture: bands, pieces of lanes, lines across them, recovery lines and marks.
-use Rattle.std.specs.Prelude.{ℕ, ◌+◌, ◌-◌, ◌*◌, ◌%◌, ◌==◌, Bool, true, false, if◌then◌else◌, List, [], ◌∷◌, ◌++◌, Option, None, Some, codes, decimal}
+use Rattle.std.specs.Prelude.{ℕ, ◌+◌, ◌-◌, ◌*◌, ◌%◌, ◌==◌, Bool, true, false, if◌then◌else◌, List, [], ◌∷◌, ◌++◌, Option, option_map_or, codes, decimal}
 use Rattle.std.specs.List.{flat_map}
 use Rattle.om_svg.specs.AnswerText.{recovery_text}
 use Rattle.om_world.specs.Texts.{answer_text, event_text}
@@ -86,8 +86,7 @@ numbers_text what numbers =
 
 -- the recovery state, where it changed
 abbrev pub changed_text : Option (List ℕ) → List ℕ
-changed_text None = []
-changed_text (Some state) = codes ", " ++ recovery_text state
+changed_text changed = option_map_or (λ state. codes ", " ++ recovery_text state) changed []
 
 -- what a title says beside the event and its answer
 abbrev pub detail_text : TitleDetail → List ℕ

@@ -17,7 +17,7 @@ use Rattle.om_world.specs.Live.{received}
 use Rattle.om_world.specs.declared.entry.Entry.{Entry}
 use Rattle.om_world.proofs.Ordered.{depends_at, length-depends}
 use Rattle.om_world.specs.Disk.{AreTrue, CanServe, DependsWithin}
-use Rattle.om_world.specs.StoreRows.{HasRowsOf}
+use Rattle.om_take_up.specs.StoreRows.{HasRowsOf}
 use Rattle.om_world.proofs.Serving.{IsAmong, rows_serve}
 use Rattle.om_world.proofs.TrueRows.{rows_are_true}
 

@@ -27,7 +27,7 @@ use Rattle.om_world.specs.Happened.{Happened, Refused}
 use Rattle.om_world.specs.Live.{cut_list}
 use Rattle.om_world.specs.Restarted.{HasRestarted, anew}
 use Rattle.om_world.specs.Started.{IsNew}
-use Rattle.om_world.specs.StoreRows.{HasRowsOf}
+use Rattle.om_take_up.specs.StoreRows.{HasRowsOf}
 use Rattle.om_world.specs.World.{Health, IsKnown, SinceState, WorldState, all_clean, recovered}
 use Rattle.om_world.specs.steps.Members.{Besides, content_in, core_in, downed, health_in, place_in, round_in, seen, sound_in}
 use Rattle.om_world.specs.steps.Moves.{Keeps}

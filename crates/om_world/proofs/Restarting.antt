@@ -27,7 +27,7 @@ use Rattle.om_world.specs.declared.process_state.ProcessState.{ProcessState}
 use Rattle.om_world.specs.Disk.{held_in}
 use Rattle.om_world.specs.Failures.{gathered}
 use Rattle.om_world.specs.Live.{cut_list}
-use Rattle.om_world.specs.StoreRows.{HasRowsOf}
+use Rattle.om_take_up.specs.StoreRows.{HasRowsOf}
 use Rattle.om_world.specs.World.{WorldState, recovered}
 use Rattle.om_world.specs.steps.Past.{Past, history, past_of}
 use Rattle.om_world.specs.steps.Sound.{HasBytes, HasShape, IsBetween, IsOld, IsStored, KeptWithin, Sound}

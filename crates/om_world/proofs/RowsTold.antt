@@ -9,7 +9,7 @@ use Rattle.om_recover.specs.Rows.{HasRow, Rows}
 use Rattle.om_recover.specs.declared.row.Row.{Row}
 use Rattle.om_stable.specs.Content.{Content}
 use Rattle.om_manager.specs.State.{ManagerState}
-use Rattle.om_world.specs.StoreRows.{HasRowsOf, first_row}
+use Rattle.om_take_up.specs.StoreRows.{HasRowsOf, first_row}
 use Rattle.om_take_up.proofs.RowsLemmas.{AreAdded, row_pid}
 use Rattle.om_world.specs.steps.Restarting.{HasRowsUpTo}
 use Rattle.om_world.proofs.Lists.{either}

@@ -11,7 +11,7 @@ use Rattle.om_stable.specs.Content.{Content}
 use Rattle.om_world.specs.Live.{program_at, received}
 use Rattle.om_world.specs.declared.entry.Entry.{Entry}
 use Rattle.om_world.specs.Disk.{AreTrue}
-use Rattle.om_world.specs.StoreRows.{HasRowsOf, first_row}
+use Rattle.om_take_up.specs.StoreRows.{HasRowsOf, first_row}
 use Rattle.om_world.proofs.StoredRows.{IsTrueRow, store_true}
 
 -- what is true of a row, as a manager has it

@@ -43,7 +43,7 @@ use Rattle.om_world.specs.declared.event.Refusal.TheVariants as why
 use Rattle.om_world.specs.Disk.{AreTrue, held_in}
 use Rattle.om_world.specs.Live.{program_at, received}
 use Rattle.om_world.specs.Started.{IsNew}
-use Rattle.om_world.specs.StoreRows.{HasRowsOf}
+use Rattle.om_take_up.specs.StoreRows.{HasRowsOf}
 use Rattle.om_world.specs.World.{IsKnown, WorldState}
 use Rattle.om_world.specs.steps.Moves.{refusal_of_record}
 use Rattle.om_world.specs.steps.Restarting.{HasRead, HasRowsUpTo, HasToldStores, refusal_of_rows, refusal_of_take_up, CanRestart}

@@ -7,7 +7,6 @@ pub mod Failures
 pub mod Happened
 pub mod Played
 pub mod Started
-pub mod StoreRows
 pub mod Restarted
 pub mod Stopped
 pub mod Events

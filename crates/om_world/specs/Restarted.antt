@@ -7,7 +7,7 @@ use Rattle.om_take_up.specs.Anew.{EachFailed, IsFirst}
 use Rattle.om_world.specs.Disk.{held_in}
 use Rattle.om_world.specs.Live.{cut_list}
 use Rattle.om_world.specs.Stopped.{IsLeft, along}
-use Rattle.om_world.specs.StoreRows.{HasRowsOf}
+use Rattle.om_take_up.specs.StoreRows.{HasRowsOf}
 use Rattle.om_world.specs.World.{WorldState}
 use Rattle.om_world.specs.declared.entry.Entry.{Entry}
 use Rattle.om_world.specs.declared.process_state.ProcessState.{ProcessState}

@@ -23,7 +23,7 @@ use Rattle.om_world.specs.Changes.{NoneFell}
 use Rattle.om_world.specs.Disk.{CanServe, DependsWithin, held_in}
 use Rattle.om_world.specs.Live.{Legal, program_at, received}
 use Rattle.om_world.specs.Stopped.{IsWhole}
-use Rattle.om_world.specs.StoreRows.{HasRowsOf, first_row}
+use Rattle.om_take_up.specs.StoreRows.{HasRowsOf, first_row}
 use Rattle.om_world.specs.World.{WorldState, IsKnown, all_clean, output_entry, recovered}
 use Rattle.om_world.specs.declared.entry.Entry.{Entry}
 use Rattle.om_world.specs.steps.Moves.{refusal_of_record}

@@ -1,7 +1,8 @@
 use Rattle.std.proofs.Common.{◌≡◌, ◌∷◌, ◌++◌, [], Ok, ap, ◌∙◌, map, subst}
 use Rattle.std.specs.Prelude.{string_bytes}
 use Rattle.om_scripts.specs.Programs.{Cluster, no_programs, program_line}
-use Rattle.om_image.specs.Image.{keyword, word_text}
+use Rattle.om_image.specs.Image.{keyword}
+use Rattle.om_look.specs.Trace.{word_text}
 use Rattle.om_image.specs.steps.Lines.{spaced}
 use Rattle.om_image.proofs.Whole.{image_line, image_short}
 use Rattle.om_image.proofs.line.line_of.Goals as goal

@@ -1,6 +1,6 @@
 use Rattle.std.proofs.Common.{◌≡◌, map, take}
 use Rattle.std.specs.Prelude.{string_bytes}
-use Rattle.om_image.specs.Image.{word_text}
+use Rattle.om_look.specs.Trace.{word_text}
 use Rattle.om_image.proofs.words.texts_of.Given as goal
 
 abbrev pub invariant-loop-word : goal.invariant-loop-word
