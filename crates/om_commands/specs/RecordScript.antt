@@ -1,5 +1,6 @@
 -- What the lines of a record script mean.
-use Rattle.std.specs.Prelude.{ℕ, ◌+◌, Bool, ◌||◌, not, false, List, [], ◌∷◌, ◌++◌, drop, length, slice_index, Option, None, Some, option_map_or, is_some, is_none, Result, Ok, Err, nat_lt, if◌then◌else◌, ◌==◌, codes}
+use Rattle.std.specs.Prelude.{ℕ, ◌+◌, Bool, ◌||◌, not, false, List, [], ◌∷◌, ◌++◌, drop, length, slice_index, Option, None, Some, is_some, is_none, Result, Ok, Err, nat_lt, if◌then◌else◌, ◌==◌, codes}
+use Rattle.std.specs.Option.{option_map_or}
 use Rattle.std.specs.Str.{bytes_eq}
 use Rattle.om_interval.specs.declared.pid.TheConstants.{MAX_PROCESSES}
 use Rattle.om_recover.specs.declared.row.RowKind.{RowKind}

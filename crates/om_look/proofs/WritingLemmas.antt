@@ -1,6 +1,7 @@
 -- What the tracer says that an instruction writes is what its effect writes, unless the instruction traps.
 use Rattle.std.proofs.Common.{◌≡◌, ◌≢◌, ℕ, ◌+◌, Bool, true, false, Option, Some, None, Result, Ok, Err, List, [], ◌∷◌, ◌++◌, refl, sym, ap, ◌∙◌, subst}
-use Rattle.std.specs.Prelude.{option_map_or, decimal, if◌then◌else◌, nat_eq, ℤ}
+use Rattle.std.specs.Prelude.{decimal, if◌then◌else◌, nat_eq, ℤ}
+use Rattle.std.specs.Option.{option_map_or}
 use Rattle.std.specs.Int.{bytes_low_first}
 use Rattle.om_isa.specs.Rows.{Decodes}
 use Rattle.om_isa.specs.Text.{text_of}

@@ -1,5 +1,6 @@
 -- Traces: a line for each turn of a process, and one for each message and output.
-use Rattle.std.specs.Prelude.{◌≡◌, ℕ, zero, suc, ◌+◌, List, [], ◌∷◌, ◌++◌, length, take, drop, codes, decimal, slice_get, Some, option_map_or, if◌then◌else◌, nat_eq, nat_lt}
+use Rattle.std.specs.Prelude.{◌≡◌, ℕ, zero, suc, ◌+◌, List, [], ◌∷◌, ◌++◌, length, take, drop, codes, decimal, slice_get, Some, if◌then◌else◌, nat_eq, nat_lt}
+use Rattle.std.specs.Option.{option_map_or}
 use Rattle.std.specs.Int.{to_be_bytes, w32}
 use Rattle.hex.specs.Hex.{encode_lower}
 use Rattle.om_isa.specs.Rows.{Decodes}
