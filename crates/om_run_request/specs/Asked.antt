@@ -1,18 +1,19 @@
 -- What is answered to a request for a run, by what is asked.
-use Rattle.std.specs.Prelude.{ℕ, List, Option, Result, Ok, Err, ⊤}
+use Rattle.std.specs.Prelude.{ℕ, List, Option, Result, Ok, Err, IfSome, ⊤}
 use Rattle.std.specs.Io.KnownBytes.{Appends, Keeps}
 use Rattle.om_arguments.specs.declared.arguments.Checking.{Checking}
 use Rattle.om_arguments.specs.declared.arguments.Checking.TheVariants as asked
 use Rattle.om_arguments.specs.declared.arguments.OutputForm.{OutputForm}
 use Rattle.om_arguments.specs.declared.arguments.OutputForm.TheVariants as forms
 use Rattle.om_arguments.specs.declared.arguments.Running.{Running}
+use Rattle.om_commands.specs.Command.{IsSilent}
 use Rattle.om_commands.specs.declared.bytes_text.BytesForm.{BytesForm}
 use Rattle.om_commands.specs.declared.bytes_text.BytesForm.TheVariants as written
 use Rattle.om_commands.specs.declared.error.CommandError.{CommandError}
 use Rattle.om_outcomes.specs.declared.failure.Failure.{Failure}
 use Rattle.om_outcomes.specs.declared.failure.Failure.TheVariants as failures
 use Rattle.om_process.specs.declared.status.Status.{Status}
-use Rattle.om_run_commands.specs.Modes.{IsErrorIn, IsPartIn, IsRunIn}
+use Rattle.om_run_commands.specs.Modes.{IsErrorIn, IsFollowing, IsPartIn, IsRunIn}
 use Rattle.om_run_commands.specs.Run.{IsByKind}
 use Rattle.om_run_commands.specs.declared.mode.RunMode.{RunMode}
 use Rattle.om_run_commands.specs.declared.mode.RunMode.TheVariants as modes
@@ -68,3 +69,22 @@ WhereRefused (Err (failures.Refused error)) IsSo = IsSo error
 WhereRefused (Err failures.Unread) IsSo = ⊤
 WhereRefused (Err failures.Strict) IsSo = ⊤
 WhereRefused (Err failures.NoSuchName) IsSo = ⊥
+
+-- of a run that came to its end, the text of some run answers the bytes so, where these are known
+abbrev pub AnswersRun : {A : Type 0} → Running → Type 0 → Option (List ℕ) → Result A Failure → Option (List ℕ) → Option (List ℕ) → Type 0
+AnswersRun running over_clean remaining result before after =
+    IfSome remaining (λ bytes. WhereRun result (IsAnswered running over_clean bytes before after))
+
+-- a run that was refused tells an error of the bytes, where these are known
+abbrev pub TellsErrorOf : {A : Type 0} → Running → Option (List ℕ) → Result A Failure → Type 0
+TellsErrorOf running remaining result = IfSome remaining (λ bytes. WhereRefused result (IsErrorOfAsked running bytes))
+
+-- a run whose outputs are not written as they are released, and that was refused, wrote nothing, unless it was the writer that refused
+abbrev pub IsSilentUnfollowed : {A : Type 0} → Running → Result A Failure → Option (List ℕ) → Option (List ℕ) → Type 0
+IsSilentUnfollowed running result before after =
+    (IsFollowing (mode_of running.checking) → ⊥) → WhereRefused result (λ error. IsSilent error (Keeps before after))
+
+-- a run whose outputs are, and that was refused, wrote those that were released by then
+abbrev pub LeavesPart : {A : Type 0} → Running → Type 0 → Option (List ℕ) → Result A Failure → Option (List ℕ) → Option (List ℕ) → Type 0
+LeavesPart running over_clean remaining result before after =
+    IsFollowing (mode_of running.checking) → IfSome remaining (λ bytes. WhereRefused result (IsRefusedRun running over_clean bytes before after))

@@ -1,10 +1,7 @@
 //! The run over memory, or over the files of a prefix.
 
-ghost use Rattle.std.specs.Prelude.{◌≡◌, IsTrue, IfSome, None};
-ghost use Rattle.std.specs.Io.KnownBytes.{Keeps};
-ghost use Rattle.om_commands.specs.Command.{IsSilent};
-ghost use Rattle.om_run_commands.specs.Modes.{IsFollowing};
-ghost use Rattle.om_run_request.specs.Asked.{IsAnswered, IsErrorOfAsked, IsRefusedRun, WhereRefused, WhereRun, mode_of};
+ghost use Rattle.std.specs.Prelude.{◌≡◌, None};
+ghost use Rattle.om_run_request.specs.Asked.{AnswersRun, IsSilentUnfollowed, LeavesPart, TellsErrorOf};
 
 use crate::surroundings::Job;
 use crate::watching::run_watched;
@@ -33,13 +30,12 @@ pub fn run_request<'a, R: Threads + Wait + Clock + Eprint + Sync, I: Read, W: Wr
     writer: W,
     reasons: &mut Reasons,
 ) -> (Result<(), Failure>, W)
-    ensures text { IfSome (I.remaining reader.old) (λ bytes. WhereRun result.0
-        (IsAnswered running.entry (running.entry.prefix ≡ None) bytes (W.contents writer) (W.contents result.1))) }
-    ensures error { IfSome (I.remaining reader.old) (λ bytes. WhereRefused result.0 (IsErrorOfAsked running.entry bytes)) }
-    ensures silent { (IsFollowing (mode_of running.entry.checking) → ⊥)
-        → WhereRefused result.0 (λ error. IsSilent error (Keeps (W.contents writer) (W.contents result.1))) }
-    ensures partly { IsFollowing (mode_of running.entry.checking) → IfSome (I.remaining reader.old) (λ bytes. WhereRefused result.0
-        (IsRefusedRun running.entry (running.entry.prefix ≡ None) bytes (W.contents writer) (W.contents result.1))) }
+    ensures text { AnswersRun running.entry (running.entry.prefix ≡ None)
+        (I.remaining reader.old) result.0 (W.contents writer) (W.contents result.1) }
+    ensures error { TellsErrorOf running.entry (I.remaining reader.old) result.0 }
+    ensures silent { IsSilentUnfollowed running.entry result.0 (W.contents writer) (W.contents result.1) }
+    ensures partly { LeavesPart running.entry (running.entry.prefix ≡ None)
+        (I.remaining reader.old) result.0 (W.contents writer) (W.contents result.1) }
 {
     let job = Job {
         running,
@@ -63,13 +59,10 @@ fn run_in_files<R: Threads + Wait + Clock + Eprint + Sync, I: Read, W: Write + D
     writer: W,
     reasons: &mut Reasons,
 ) -> (Result<(), Failure>, W)
-    ensures text { IfSome (I.remaining reader.old) (λ bytes. WhereRun result.0
-        (IsAnswered job.entry.running ⊥ bytes (W.contents writer) (W.contents result.1))) }
-    ensures error { IfSome (I.remaining reader.old) (λ bytes. WhereRefused result.0 (IsErrorOfAsked job.entry.running bytes)) }
-    ensures silent { (IsFollowing (mode_of job.entry.running.checking) → ⊥)
-        → WhereRefused result.0 (λ error. IsSilent error (Keeps (W.contents writer) (W.contents result.1))) }
-    ensures partly { IsFollowing (mode_of job.entry.running.checking) → IfSome (I.remaining reader.old) (λ bytes. WhereRefused result.0
-        (IsRefusedRun job.entry.running ⊥ bytes (W.contents writer) (W.contents result.1))) }
+    ensures text { AnswersRun job.entry.running ⊥ (I.remaining reader.old) result.0 (W.contents writer) (W.contents result.1) }
+    ensures error { TellsErrorOf job.entry.running (I.remaining reader.old) result.0 }
+    ensures silent { IsSilentUnfollowed job.entry.running result.0 (W.contents writer) (W.contents result.1) }
+    ensures partly { LeavesPart job.entry.running ⊥ (I.remaining reader.old) result.0 (W.contents writer) (W.contents result.1) }
 {
     let notes = match Notes::new(rt.alloc(), MAX_PROCESSES) {
         Ok(notes) => notes,
@@ -102,13 +95,10 @@ fn run_over_tables<
     writer: W,
     reasons: &mut Reasons,
 ) -> (Result<(), Failure>, W)
-    ensures text { IfSome (I.remaining reader.old) (λ bytes. WhereRun result.0
-        (IsAnswered job.entry.running ⊥ bytes (W.contents writer) (W.contents result.1))) }
-    ensures error { IfSome (I.remaining reader.old) (λ bytes. WhereRefused result.0 (IsErrorOfAsked job.entry.running bytes)) }
-    ensures silent { (IsFollowing (mode_of job.entry.running.checking) → ⊥)
-        → WhereRefused result.0 (λ error. IsSilent error (Keeps (W.contents writer) (W.contents result.1))) }
-    ensures partly { IsFollowing (mode_of job.entry.running.checking) → IfSome (I.remaining reader.old) (λ bytes. WhereRefused result.0
-        (IsRefusedRun job.entry.running ⊥ bytes (W.contents writer) (W.contents result.1))) }
+    ensures text { AnswersRun job.entry.running ⊥ (I.remaining reader.old) result.0 (W.contents writer) (W.contents result.1) }
+    ensures error { TellsErrorOf job.entry.running (I.remaining reader.old) result.0 }
+    ensures silent { IsSilentUnfollowed job.entry.running result.0 (W.contents writer) (W.contents result.1) }
+    ensures partly { LeavesPart job.entry.running ⊥ (I.remaining reader.old) result.0 (W.contents writer) (W.contents result.1) }
 {
     if job.running.resumes {
         run_again(rt, threads, job, connects, reader, writer, reasons)
@@ -132,13 +122,10 @@ fn run_anew<
     writer: W,
     reasons: &mut Reasons,
 ) -> (Result<(), Failure>, W)
-    ensures text { IfSome (I.remaining reader.old) (λ bytes. WhereRun result.0
-        (IsAnswered job.entry.running ⊥ bytes (W.contents writer) (W.contents result.1))) }
-    ensures error { IfSome (I.remaining reader.old) (λ bytes. WhereRefused result.0 (IsErrorOfAsked job.entry.running bytes)) }
-    ensures silent { (IsFollowing (mode_of job.entry.running.checking) → ⊥)
-        → WhereRefused result.0 (λ error. IsSilent error (Keeps (W.contents writer) (W.contents result.1))) }
-    ensures partly { IsFollowing (mode_of job.entry.running.checking) → IfSome (I.remaining reader.old) (λ bytes. WhereRefused result.0
-        (IsRefusedRun job.entry.running ⊥ bytes (W.contents writer) (W.contents result.1))) }
+    ensures text { AnswersRun job.entry.running ⊥ (I.remaining reader.old) result.0 (W.contents writer) (W.contents result.1) }
+    ensures error { TellsErrorOf job.entry.running (I.remaining reader.old) result.0 }
+    ensures silent { IsSilentUnfollowed job.entry.running result.0 (W.contents writer) (W.contents result.1) }
+    ensures partly { LeavesPart job.entry.running ⊥ (I.remaining reader.old) result.0 (W.contents writer) (W.contents result.1) }
 {
     let opener = InTables { connects };
     run_watched(rt, threads, job, &opener, reader, writer, reasons)
@@ -159,13 +146,10 @@ fn run_again<
     writer: W,
     reasons: &mut Reasons,
 ) -> (Result<(), Failure>, W)
-    ensures text { IfSome (I.remaining reader.old) (λ bytes. WhereRun result.0
-        (IsAnswered job.entry.running ⊥ bytes (W.contents writer) (W.contents result.1))) }
-    ensures error { IfSome (I.remaining reader.old) (λ bytes. WhereRefused result.0 (IsErrorOfAsked job.entry.running bytes)) }
-    ensures silent { (IsFollowing (mode_of job.entry.running.checking) → ⊥)
-        → WhereRefused result.0 (λ error. IsSilent error (Keeps (W.contents writer) (W.contents result.1))) }
-    ensures partly { IsFollowing (mode_of job.entry.running.checking) → IfSome (I.remaining reader.old) (λ bytes. WhereRefused result.0
-        (IsRefusedRun job.entry.running ⊥ bytes (W.contents writer) (W.contents result.1))) }
+    ensures text { AnswersRun job.entry.running ⊥ (I.remaining reader.old) result.0 (W.contents writer) (W.contents result.1) }
+    ensures error { TellsErrorOf job.entry.running (I.remaining reader.old) result.0 }
+    ensures silent { IsSilentUnfollowed job.entry.running result.0 (W.contents writer) (W.contents result.1) }
+    ensures partly { LeavesPart job.entry.running ⊥ (I.remaining reader.old) result.0 (W.contents writer) (W.contents result.1) }
 {
     let opener = TakenUp { connects };
     run_watched(rt, threads, job, &opener, reader, writer, reasons)

@@ -1,10 +1,7 @@
 //! A run of which more is said on standard error: how far it has come, and what its processes waited for where it came to no end.
 
-ghost use Rattle.std.specs.Prelude.{◌≡◌, ◌⊎◌, IsTrue, IfSome, MatchResult, Ok, Err};
-ghost use Rattle.std.specs.Io.KnownBytes.{Keeps};
-ghost use Rattle.om_commands.specs.Command.{IsSilent};
-ghost use Rattle.om_run_commands.specs.Modes.{IsFollowing};
-ghost use Rattle.om_run_request.specs.Asked.{IsAnswered, IsErrorOfAsked, IsRefusedRun, WhereRefused, WhereRun, mode_of};
+ghost use Rattle.std.specs.Prelude.{◌≡◌, ◌⊎◌, IsTrue, MatchResult, Ok, Err};
+ghost use Rattle.om_run_request.specs.Asked.{AnswersRun, IsSilentUnfollowed, LeavesPart, TellsErrorOf};
 
 use crate::asked::run_asked;
 use crate::surroundings::{Job, Surroundings};
@@ -101,13 +98,12 @@ fn run_as<'a, 'w, R: Threads + Wait + Clock + Sync, O: Opener<R> + Sync, I: Read
     reader: &mut I,
     writer: W,
 ) -> (Result<(), Failure>, W)
-    ensures text { IfSome (I.remaining reader.old) (λ bytes. WhereRun result.0
-        (IsAnswered running.entry ((store : O.Store) → IsTrue (O.Store.is_clean store)) bytes (W.contents writer) (W.contents result.1))) }
-    ensures error { IfSome (I.remaining reader.old) (λ bytes. WhereRefused result.0 (IsErrorOfAsked running.entry bytes)) }
-    ensures silent { (IsFollowing (mode_of running.entry.checking) → ⊥)
-        → WhereRefused result.0 (λ error. IsSilent error (Keeps (W.contents writer) (W.contents result.1))) }
-    ensures partly { IsFollowing (mode_of running.entry.checking) → IfSome (I.remaining reader.old) (λ bytes. WhereRefused result.0
-        (IsRefusedRun running.entry ((store : O.Store) → IsTrue (O.Store.is_clean store)) bytes (W.contents writer) (W.contents result.1))) }
+    ensures text { AnswersRun running.entry ((store : O.Store) → IsTrue (O.Store.is_clean store))
+        (I.remaining reader.old) result.0 (W.contents writer) (W.contents result.1) }
+    ensures error { TellsErrorOf running.entry (I.remaining reader.old) result.0 }
+    ensures silent { IsSilentUnfollowed running.entry result.0 (W.contents writer) (W.contents result.1) }
+    ensures partly { LeavesPart running.entry ((store : O.Store) → IsTrue (O.Store.is_clean store))
+        (I.remaining reader.old) result.0 (W.contents writer) (W.contents result.1) }
 {
     let rt = surroundings.rt;
     let (outcome, output) = run_asked(
@@ -163,13 +159,12 @@ fn run_and_say<
     reader: &mut I,
     writer: W,
 ) -> (Result<(), Failure>, W)
-    ensures text { IfSome (I.remaining reader.old) (λ bytes. WhereRun result.0
-        (IsAnswered running.entry ((store : O.Store) → IsTrue (O.Store.is_clean store)) bytes (W.contents writer) (W.contents result.1))) }
-    ensures error { IfSome (I.remaining reader.old) (λ bytes. WhereRefused result.0 (IsErrorOfAsked running.entry bytes)) }
-    ensures silent { (IsFollowing (mode_of running.entry.checking) → ⊥)
-        → WhereRefused result.0 (λ error. IsSilent error (Keeps (W.contents writer) (W.contents result.1))) }
-    ensures partly { IsFollowing (mode_of running.entry.checking) → IfSome (I.remaining reader.old) (λ bytes. WhereRefused result.0
-        (IsRefusedRun running.entry ((store : O.Store) → IsTrue (O.Store.is_clean store)) bytes (W.contents writer) (W.contents result.1))) }
+    ensures text { AnswersRun running.entry ((store : O.Store) → IsTrue (O.Store.is_clean store))
+        (I.remaining reader.old) result.0 (W.contents writer) (W.contents result.1) }
+    ensures error { TellsErrorOf running.entry (I.remaining reader.old) result.0 }
+    ensures silent { IsSilentUnfollowed running.entry result.0 (W.contents writer) (W.contents result.1) }
+    ensures partly { LeavesPart running.entry ((store : O.Store) → IsTrue (O.Store.is_clean store))
+        (I.remaining reader.old) result.0 (W.contents writer) (W.contents result.1) }
 {
     let (watch, stage) = seen;
     let alloc = surroundings.rt.alloc();
@@ -177,13 +172,12 @@ fn run_and_say<
         thread::scope_env(),
         threads,
         |scope| -> (Result<(), Failure>, W)
-            ensures text { IfSome (I.remaining reader.entry.now) (λ bytes. WhereRun result.0
-                (IsAnswered running.entry ((store : O.Store) → IsTrue (O.Store.is_clean store)) bytes (W.contents writer) (W.contents result.1))) }
-            ensures error { IfSome (I.remaining reader.entry.now) (λ bytes. WhereRefused result.0 (IsErrorOfAsked running.entry bytes)) }
-            ensures silent { (IsFollowing (mode_of running.entry.checking) → ⊥)
-                → WhereRefused result.0 (λ error. IsSilent error (Keeps (W.contents writer) (W.contents result.1))) }
-            ensures partly { IsFollowing (mode_of running.entry.checking) → IfSome (I.remaining reader.entry.now) (λ bytes. WhereRefused result.0
-                (IsRefusedRun running.entry ((store : O.Store) → IsTrue (O.Store.is_clean store)) bytes (W.contents writer) (W.contents result.1))) }
+            ensures text { AnswersRun running.entry ((store : O.Store) → IsTrue (O.Store.is_clean store))
+                (I.remaining reader.entry.now) result.0 (W.contents writer) (W.contents result.1) }
+            ensures error { TellsErrorOf running.entry (I.remaining reader.entry.now) result.0 }
+            ensures silent { IsSilentUnfollowed running.entry result.0 (W.contents writer) (W.contents result.1) }
+            ensures partly { LeavesPart running.entry ((store : O.Store) → IsTrue (O.Store.is_clean store))
+                (I.remaining reader.entry.now) result.0 (W.contents writer) (W.contents result.1) }
         {
             let beside = scope.spawn(move || say_progress(threads, alloc, watch, stage));
             let told = run_as(threads, running, opener, surroundings, reader, writer);
@@ -213,13 +207,12 @@ fn run_seen<
     reader: &mut I,
     writer: W,
 ) -> (Result<(), Failure>, W)
-    ensures text { IfSome (I.remaining reader.old) (λ bytes. WhereRun result.0
-        (IsAnswered running.entry ((store : O.Store) → IsTrue (O.Store.is_clean store)) bytes (W.contents writer) (W.contents result.1))) }
-    ensures error { IfSome (I.remaining reader.old) (λ bytes. WhereRefused result.0 (IsErrorOfAsked running.entry bytes)) }
-    ensures silent { (IsFollowing (mode_of running.entry.checking) → ⊥)
-        → WhereRefused result.0 (λ error. IsSilent error (Keeps (W.contents writer) (W.contents result.1))) }
-    ensures partly { IsFollowing (mode_of running.entry.checking) → IfSome (I.remaining reader.old) (λ bytes. WhereRefused result.0
-        (IsRefusedRun running.entry ((store : O.Store) → IsTrue (O.Store.is_clean store)) bytes (W.contents writer) (W.contents result.1))) }
+    ensures text { AnswersRun running.entry ((store : O.Store) → IsTrue (O.Store.is_clean store))
+        (I.remaining reader.old) result.0 (W.contents writer) (W.contents result.1) }
+    ensures error { TellsErrorOf running.entry (I.remaining reader.old) result.0 }
+    ensures silent { IsSilentUnfollowed running.entry result.0 (W.contents writer) (W.contents result.1) }
+    ensures partly { LeavesPart running.entry ((store : O.Store) → IsTrue (O.Store.is_clean store))
+        (I.remaining reader.old) result.0 (W.contents writer) (W.contents result.1) }
 {
     let watch = surroundings.watch;
     let opener = Watched { opener, watch };
@@ -255,13 +248,12 @@ fn run_beside<
     writer: W,
     reasons: &mut Reasons,
 ) -> (Result<(), Failure>, W)
-    ensures text { IfSome (I.remaining reader.old) (λ bytes. WhereRun result.0
-        (IsAnswered job.entry.running ((store : O.Store) → IsTrue (O.Store.is_clean store)) bytes (W.contents writer) (W.contents result.1))) }
-    ensures error { IfSome (I.remaining reader.old) (λ bytes. WhereRefused result.0 (IsErrorOfAsked job.entry.running bytes)) }
-    ensures silent { (IsFollowing (mode_of job.entry.running.checking) → ⊥)
-        → WhereRefused result.0 (λ error. IsSilent error (Keeps (W.contents writer) (W.contents result.1))) }
-    ensures partly { IsFollowing (mode_of job.entry.running.checking) → IfSome (I.remaining reader.old) (λ bytes. WhereRefused result.0
-        (IsRefusedRun job.entry.running ((store : O.Store) → IsTrue (O.Store.is_clean store)) bytes (W.contents writer) (W.contents result.1))) }
+    ensures text { AnswersRun job.entry.running ((store : O.Store) → IsTrue (O.Store.is_clean store))
+        (I.remaining reader.old) result.0 (W.contents writer) (W.contents result.1) }
+    ensures error { TellsErrorOf job.entry.running (I.remaining reader.old) result.0 }
+    ensures silent { IsSilentUnfollowed job.entry.running result.0 (W.contents writer) (W.contents result.1) }
+    ensures partly { LeavesPart job.entry.running ((store : O.Store) → IsTrue (O.Store.is_clean store))
+        (I.remaining reader.old) result.0 (W.contents writer) (W.contents result.1) }
 {
     let (watch, stage) = seen;
     let mut surroundings = Surroundings::new(rt, threads, job, watch, stage, reasons.are_heard);
@@ -295,13 +287,12 @@ pub(crate) fn run_watched<
     writer: W,
     reasons: &mut Reasons,
 ) -> (Result<(), Failure>, W)
-    ensures text { IfSome (I.remaining reader.old) (λ bytes. WhereRun result.0
-        (IsAnswered job.entry.running ((store : O.Store) → IsTrue (O.Store.is_clean store)) bytes (W.contents writer) (W.contents result.1))) }
-    ensures error { IfSome (I.remaining reader.old) (λ bytes. WhereRefused result.0 (IsErrorOfAsked job.entry.running bytes)) }
-    ensures silent { (IsFollowing (mode_of job.entry.running.checking) → ⊥)
-        → WhereRefused result.0 (λ error. IsSilent error (Keeps (W.contents writer) (W.contents result.1))) }
-    ensures partly { IsFollowing (mode_of job.entry.running.checking) → IfSome (I.remaining reader.old) (λ bytes. WhereRefused result.0
-        (IsRefusedRun job.entry.running ((store : O.Store) → IsTrue (O.Store.is_clean store)) bytes (W.contents writer) (W.contents result.1))) }
+    ensures text { AnswersRun job.entry.running ((store : O.Store) → IsTrue (O.Store.is_clean store))
+        (I.remaining reader.old) result.0 (W.contents writer) (W.contents result.1) }
+    ensures error { TellsErrorOf job.entry.running (I.remaining reader.old) result.0 }
+    ensures silent { IsSilentUnfollowed job.entry.running result.0 (W.contents writer) (W.contents result.1) }
+    ensures partly { LeavesPart job.entry.running ((store : O.Store) → IsTrue (O.Store.is_clean store))
+        (I.remaining reader.old) result.0 (W.contents writer) (W.contents result.1) }
 {
     let stage = Stage::new();
     if !reasons.are_heard && !job.running.strict {
