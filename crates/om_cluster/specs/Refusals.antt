@@ -1,5 +1,9 @@
--- How a run's caller is told why a process has no store.
+-- How a run's caller is told why a process does not start, or does not go on.
 use Rattle.std.specs.Prelude.{ℕ}
+use Rattle.om_node.specs.declared.worker_fault.WorkerFault.{WorkerFault}
+use Rattle.om_node.specs.declared.worker_fault.WorkerFault.TheVariants as working
+use Rattle.om_process.specs.declared.start.StartFault.{StartFault}
+use Rattle.om_process.specs.declared.start.StartFault.TheVariants as starting
 use Rattle.om_report.specs.declared.fault.RunFault.{RunFault}
 use Rattle.om_report.specs.declared.fault.RunFault.TheVariants as running
 use Rattle.om_cluster.specs.declared.opener.OpenFault.{OpenFault}
@@ -10,3 +14,14 @@ abbrev pub refusal_of_opening : OpenFault → ℕ → RunFault
 refusal_of_opening opening.Memory pid = running.Memory
 refusal_of_opening opening.Refused pid = running.Load pid
 refusal_of_opening opening.InUse pid = running.StoreInUse pid
+
+-- the process was not started over its store
+abbrev pub refusal_of_start : StartFault → ℕ → RunFault
+refusal_of_start starting.Memory pid = running.Memory
+refusal_of_start starting.Fault pid = running.Fault pid
+refusal_of_start _ pid = running.Load pid
+
+-- its worker cannot go on
+abbrev pub refusal_of_worker : WorkerFault → ℕ → RunFault
+refusal_of_worker working.Memory pid = running.Memory
+refusal_of_worker working.Refused pid = running.Fault pid

@@ -2,7 +2,7 @@
 
 ghost use Rattle.std.specs.Prelude.{◌≡◌};
 ghost use Rattle.om_report.specs.Faults.{IsFaultBy};
-ghost use Rattle.om_cluster.specs.Refusals.{refusal_of_opening};
+ghost use Rattle.om_cluster.specs.Refusals.{refusal_of_opening, refusal_of_start, refusal_of_worker};
 
 use crate::opener::OpenFault;
 use om_interval::Pid;
@@ -12,7 +12,8 @@ use om_report::RunFault;
 
 /// Returns the fault that the run's caller is told where the worker of a process cannot go on.
 pub fn run_fault(fault: WorkerFault, pid: Pid) -> RunFault
-    ensures { IsFaultBy pid result }
+    ensures named { result ≡ refusal_of_worker fault pid }
+    ensures fault { IsFaultBy pid result }
 {
     match fault {
         WorkerFault::Memory => RunFault::Memory,
@@ -22,7 +23,8 @@ pub fn run_fault(fault: WorkerFault, pid: Pid) -> RunFault
 
 /// Returns the fault that the run's caller is told where a process was not started.
 pub fn load_fault(fault: StartFault, pid: Pid) -> RunFault
-    ensures { IsFaultBy pid result }
+    ensures named { result ≡ refusal_of_start fault pid }
+    ensures fault { IsFaultBy pid result }
 {
     match fault {
         StartFault::Memory => RunFault::Memory,
