@@ -1,5 +1,5 @@
 -- The format of a record: its fields from the left.
-use Rattle.std.specs.Prelude.{ℕ, ◌^◌, List, slice_index, Bool, true, nat_le}
+use Rattle.std.specs.Prelude.{ℕ, ◌*◌, ◌^◌, List, slice_index, Bool, true, nat_le}
 use Rattle.std.specs.Int.{Width, w8, w16, w32, w64}
 use Rattle.om_format.specs.declared.limits.TheConstants.{MAX_BODY}
 use Rattle.om_format.specs.declared.error.DecodeError.{DecodeError}
