@@ -1,6 +1,5 @@
 -- What the lines of a record script mean.
 use Rattle.std.specs.Prelude.{ℕ, ◌+◌, Bool, ◌||◌, not, false, List, [], ◌∷◌, ◌++◌, drop, length, slice_index, Option, None, Some, is_some, is_none, Result, Ok, Err, nat_lt, if◌then◌else◌, ◌==◌, codes}
-use Rattle.std.specs.Option.{option_map_or}
 use Rattle.std.specs.Str.{bytes_eq}
 use Rattle.om_interval.specs.declared.pid.TheConstants.{MAX_PROCESSES}
 use Rattle.om_recover.specs.declared.row.RowKind.{RowKind}
@@ -30,14 +29,19 @@ processes_line script (word ∷ []) = do
   Ok (record script { processes = Some n })
 processes_line script _ = Err WrongCount
 
+-- a note has a process, an interval, and a place for each process; while their number is not known no count is wrong
+abbrev pub has_wrong_count : Option ℕ → List (List ℕ) → Bool
+has_wrong_count None words = false
+has_wrong_count (Some n) words = not (length words == n + 2)
+
 -- the note of these numbers: process, interval, and the vector
 abbrev pub note_of : RowKind → List ℕ → NoteLine
 note_of kind numbers = record { kind = kind; pid = slice_index numbers 0; interval = slice_index numbers 1; vec = drop 2 numbers }
 
--- a line `log P X V0 ..` or `ckpt P X V0 ..`, once the number of processes is given: it has a process, an interval, and a place for each
+-- a line `log P X V0 ..` or `ckpt P X V0 ..`, once the number of processes is given
 abbrev pub note_line : RowKind → RecordLines → List (List ℕ) → Result RecordLines LineError
 note_line kind script words = do
-  _ ← refused (option_map_or (λ n. not (length words == n + 2)) script.processes false) WrongCount
+  _ ← refused (has_wrong_count script.processes words) WrongCount
   numbers ← all_read number_of BadNumber words
   _ ← refused (is_none script.processes) OutOfPlace
   Ok (record script { notes = script.notes ++ note_of kind numbers ∷ [] })
