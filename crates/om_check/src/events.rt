@@ -3,7 +3,7 @@
 ghost use Rattle.std.specs.Prelude.{◌≡◌, OnOk};
 ghost use Rattle.om_world.specs.declared.event.Event.{Event};
 ghost use Rattle.om_world.specs.World.{IsKnown};
-ghost use Rattle.om_check.specs.steps.Playing.{IsTaken, StaysUnderWay, WasPlayed};
+ghost use Rattle.om_check.specs.steps.Playing.{IsTaken, KeepsKnownLive, StaysUnderWay, WasPlayed};
 
 use crate::fault::PlayFault;
 use om_interval::Pid;
@@ -20,7 +20,7 @@ pub(crate) fn run(
     fuel: u64,
 ) -> Result<usize, PlayFault>
     ensures way { OnOk result (StaysUnderWay world.old world.new) }
-    ensures live { OnOk result (IsKnown world.new → world.new.live ≡ world.old.live) }
+    ensures live { OnOk result (KeepsKnownLive world.old world.new) }
     ensures played { OnOk result (WasPlayed world.old (Event.Run pid fuel) world.new) }
 {
     let process = pid.index();
@@ -59,7 +59,7 @@ pub(crate) fn give(
 // Releases what a process put out.
 pub(crate) fn flush(world: &mut World<MemStable>, alloc: Global, pid: Pid) -> Result<(), PlayFault>
     ensures way { OnOk result (StaysUnderWay world.old world.new) }
-    ensures live { OnOk result (IsKnown world.new → world.new.live ≡ world.old.live) }
+    ensures live { OnOk result (KeepsKnownLive world.old world.new) }
     ensures played { OnOk result (WasPlayed world.old (Event.Flush pid) world.new) }
 {
     let process = pid.index();
@@ -77,7 +77,7 @@ pub(crate) fn checkpoint(
     pid: Pid,
 ) -> Result<(), PlayFault>
     ensures way { OnOk result (StaysUnderWay world.old world.new) }
-    ensures live { OnOk result (IsKnown world.new → world.new.live ≡ world.old.live) }
+    ensures live { OnOk result (KeepsKnownLive world.old world.new) }
     ensures played { OnOk result (WasPlayed world.old (Event.Checkpoint pid) world.new) }
 {
     let process = pid.index();
@@ -91,7 +91,7 @@ pub(crate) fn checkpoint(
 // Drops what the manager and the stores need not keep.
 pub(crate) fn prune(world: &mut World<MemStable>, alloc: Global) -> Result<(), PlayFault>
     ensures way { OnOk result (StaysUnderWay world.old world.new) }
-    ensures live { OnOk result (IsKnown world.new → world.new.live ≡ world.old.live) }
+    ensures live { OnOk result (KeepsKnownLive world.old world.new) }
     ensures played { OnOk result (WasPlayed world.old (Event.Prune) world.new) }
 {
     let answers = world.play(alloc, &[Event::Prune])?;
@@ -104,7 +104,7 @@ pub(crate) fn prune(world: &mut World<MemStable>, alloc: Global) -> Result<(), P
 // Drops what a process need not keep.
 pub(crate) fn trim(world: &mut World<MemStable>, alloc: Global, pid: Pid) -> Result<(), PlayFault>
     ensures way { OnOk result (StaysUnderWay world.old world.new) }
-    ensures live { OnOk result (IsKnown world.new → world.new.live ≡ world.old.live) }
+    ensures live { OnOk result (KeepsKnownLive world.old world.new) }
     ensures played { OnOk result (WasPlayed world.old (Event.Trim pid) world.new) }
 {
     let process = pid.index();

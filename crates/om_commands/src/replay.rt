@@ -2,7 +2,7 @@
 
 ghost use Rattle.std.specs.Prelude.{◌≡◌, ℕ, List, IfOk, IfErr, OnOk, IsErrOf, Err, ◌≢◌, string_bytes};
 ghost use Rattle.std.specs.Io.KnownBytes.{Appends, Keeps};
-ghost use Rattle.om_stable.specs.Calls.{IsCleanCall, UsesStore};
+ghost use Rattle.om_stable.specs.Calls.{IsCleanCall, UsesStore, LeavesContent};
 ghost use Rattle.om_process.specs.Stored.{anyone, CanReplay};
 ghost use Rattle.om_commands.specs.Command.{IsSilent};
 ghost use Rattle.om_commands.specs.Replay.{IsNoMatterOfContent, IsReplayError, IsReplayText};
@@ -32,7 +32,7 @@ pub fn replay<S: Stable, W: Write>(
     ensures only { IsCleanCall S.is_clean S.IsSound store.old store.new → CanReplay anyone (S.content store.old) interval
         → IfErr result IsNoMatterOfContent }
     ensures silent { IfErr result (λ error. IsSilent error (Keeps (W.contents writer.old) (W.contents writer.new))) }
-    ensures same { IsCleanCall S.is_clean S.IsSound store.old store.new → S.content store.new ≡ S.content store.old }
+    ensures same { LeavesContent S.content S.is_clean S.IsSound store.old store.new }
     ensures used { UsesStore S.failed S.is_clean S.IsSound store.old (IsErrOf result CommandError.StoreFault) store.new }
 {
     let text = replayed(alloc, store, interval)?;
@@ -48,7 +48,7 @@ fn replayed<S: Stable>(alloc: Global, store: &mut S, interval: u32) -> Result<St
     ensures only { IsCleanCall S.is_clean S.IsSound store.old store.new → CanReplay anyone (S.content store.old) interval
         → IfErr result IsNoMatterOfContent }
     ensures silent { result ≢ Err CommandError.CannotWrite }
-    ensures same { IsCleanCall S.is_clean S.IsSound store.old store.new → S.content store.new ≡ S.content store.old }
+    ensures same { LeavesContent S.content S.is_clean S.IsSound store.old store.new }
     ensures used { UsesStore S.failed S.is_clean S.IsSound store.old (IsErrOf result CommandError.StoreFault) store.new }
 {
     let core = ProcCore::replay(alloc, store, interval)?;

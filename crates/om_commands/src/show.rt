@@ -3,7 +3,7 @@
 ghost use Rattle.std.specs.Prelude.{◌≡◌, ℕ, List, IfErr, OnOk, IsErrOf};
 ghost use Rattle.std.specs.Io.KnownBytes.{Appends, Keeps};
 ghost use Rattle.om_look.specs.Show.{IsShown};
-ghost use Rattle.om_stable.specs.Calls.{IsCleanCall, UsesStore};
+ghost use Rattle.om_stable.specs.Calls.{IsCleanCall, UsesStore, LeavesContent};
 ghost use Rattle.om_commands.specs.Command.{IsSilent};
 ghost use Rattle.om_commands.specs.Replay.{IsNoMatterOfContent};
 ghost use Rattle.om_commands.specs.steps.Errors.{error_of_look};
@@ -28,7 +28,7 @@ pub fn show<S: Stable, W: Write>(
         × Appends (W.contents writer.old) (W.contents writer.new) text) }
     ensures error { IfErr result IsNoMatterOfContent }
     ensures silent { IfErr result (λ error. IsSilent error (Keeps (W.contents writer.old) (W.contents writer.new))) }
-    ensures same { IsCleanCall S.is_clean S.IsSound store.old store.new → S.content store.new ≡ S.content store.old }
+    ensures same { LeavesContent S.content S.is_clean S.IsSound store.old store.new }
     ensures used { UsesStore S.failed S.is_clean S.IsSound store.old (IsErrOf result CommandError.StoreFault) store.new }
 {
     let text = content_text(alloc, store)?;

@@ -10,7 +10,7 @@ ghost use Rattle.om_report.specs.Released.{AreAllMade, AreAllReleased};
 ghost use Rattle.om_report.specs.Telling.{AreInOrder, AreToldMade, Told};
 ghost use Rattle.om_following.specs.declared.follower.FollowFault.TheVariants.{Unwanted};
 ghost use Rattle.om_following.specs.Following.{AreAllCopied, AreEmpty, AreTold, IsEmpty, IsFollowed};
-ghost use Rattle.om_following.specs.steps.Lanes.{AreMore, HasTold, HaveMore, HaveTold, IsBehind, IsMore, held_in};
+ghost use Rattle.om_following.specs.steps.Lanes.{AreMore, HasTold, HaveMore, HaveTold, IsBehind, IsMore, held_in, KeepsCopied};
 ghost use Rattle.om_report.specs.Harvests.{AreOwn, harvested};
 
 use crate::followed_outputs::FollowedOutputs;
@@ -163,7 +163,7 @@ fn tell_release<F: Follower>(
     release: Release,
 ) -> bool
     ensures many { vec_len lanes.new ≡ vec_len lanes.old }
-    ensures copied { map (λ lane. lane.copied) lanes.new.items ≡ map (λ lane. lane.copied) lanes.old.items }
+    ensures copied { KeepsCopied lanes.old.items lanes.new.items }
     ensures told { IsTrue result → HaveTold F.Tells lanes.old.items follower.old lanes.new.items follower.new }
 {
     let Release { process, below } = release;
@@ -181,7 +181,7 @@ fn tell_in_order<F: Follower>(
     releases: &[Release],
 ) -> bool
     ensures many { vec_len lanes.new ≡ vec_len lanes.old }
-    ensures copied { map (λ lane. lane.copied) lanes.new.items ≡ map (λ lane. lane.copied) lanes.old.items }
+    ensures copied { KeepsCopied lanes.old.items lanes.new.items }
     ensures told { IsTrue result → HaveTold F.Tells lanes.old.items follower.old lanes.new.items follower.new }
 {
     for release in releases {
@@ -196,7 +196,7 @@ fn tell_in_order<F: Follower>(
 fn tell_rest<F: Follower>(follower: &mut F, lanes: &mut Vec<FollowedOutputs>) -> bool
     requires { vec_len lanes.old ≤ MAX_PROCESSES }
     ensures many { vec_len lanes.new ≡ vec_len lanes.old }
-    ensures copied { map (λ lane. lane.copied) lanes.new.items ≡ map (λ lane. lane.copied) lanes.old.items }
+    ensures copied { KeepsCopied lanes.old.items lanes.new.items }
     ensures told { IsTrue result → HaveTold F.Tells lanes.old.items follower.old lanes.new.items follower.new }
     ensures all { IsTrue result → AreTold lanes.new.items }
 {
@@ -217,7 +217,7 @@ fn tell_all<F: Follower>(
 ) -> bool
     requires { vec_len lanes.old ≤ MAX_PROCESSES }
     ensures many { vec_len lanes.new ≡ vec_len lanes.old }
-    ensures copied { map (λ lane. lane.copied) lanes.new.items ≡ map (λ lane. lane.copied) lanes.old.items }
+    ensures copied { KeepsCopied lanes.old.items lanes.new.items }
     ensures told { IsTrue result → HaveTold F.Tells lanes.old.items follower.old lanes.new.items follower.new }
     ensures all { IsTrue result → AreTold lanes.new.items }
 {

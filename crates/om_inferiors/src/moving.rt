@@ -4,7 +4,7 @@ ghost use Rattle.std.specs.Prelude.{◌≡◌, ◌≢◌, ◌⊎◌, ℕ, ◌<�
 ghost use Rattle.om_timeline.specs.Timeline.{IsUpTo};
 ghost use Rattle.om_inferiors.specs.declared.inferior.Inferior.{Inferior};
 ghost use Rattle.om_inferiors.specs.Moving.{AreBack, AreOn, IsLastOf, IsNoStepBack, IsRunBackAt, IsStepBackAt, StandsAt};
-ghost use Rattle.om_inferiors.specs.steps.Lasting.{IsBehindAt, IsLastUpTo, IsLaterOf, IsLookedBackAt};
+ghost use Rattle.om_inferiors.specs.steps.Lasting.{OthersStay, IsBehindAt, IsLastUpTo, IsLaterOf, IsLookedBackAt};
 
 use crate::inferior::Inferior;
 use om_debug::{Stop, Wish};
@@ -49,7 +49,7 @@ fn go_on_at(all: &mut [Inferior], place: usize, how: Resume) -> Result<Option<St
     requires { place < length all.old }
     ensures on { OnOk result (AreOn all.old all.new) }
     ensures stands { IfOk result (λ stop. IfSome stop (StandsAt all.new place)) }
-    ensures others { (k : ℕ) → k ≢ place → slice_get all.new k ≡ slice_get all.old k }
+    ensures others { OthersStay place all.old all.new }
 {
     let inferior = &mut all[place];
     inferior.debugger.go_on(how)
@@ -232,7 +232,7 @@ fn run_back_at<R: Wish>(
     requires { place < length all.old }
     ensures back { AreBack all.old all.new }
     ensures told { IfOk result (IsRunBackAt all.old all.new place) }
-    ensures others { (k : ℕ) → k ≢ place → slice_get all.new k ≡ slice_get all.old k }
+    ensures others { OthersStay place all.old all.new }
     ensures unread { R.remaining reader.new ≡ R.remaining reader.old }
 {
     let inferior = &mut all[place];
@@ -243,7 +243,7 @@ fn step_back_at(all: &mut [Inferior], place: usize) -> Result<Stop, PlayFault>
     requires { place < length all.old }
     ensures back { AreBack all.old all.new }
     ensures told { IfOk result (IsStepBackAt all.old all.new place) }
-    ensures others { (k : ℕ) → k ≢ place → slice_get all.new k ≡ slice_get all.old k }
+    ensures others { OthersStay place all.old all.new }
 {
     let inferior = &mut all[place];
     inferior.debugger.step_back()
@@ -258,7 +258,7 @@ fn look_back_at<R: Wish>(
     requires { place < length all.old }
     ensures back { AreBack all.old all.new }
     ensures told { IfOk result (IsLookedBackAt all.old all.new place event) }
-    ensures others { (k : ℕ) → k ≢ place → slice_get all.new k ≡ slice_get all.old k }
+    ensures others { OthersStay place all.old all.new }
     ensures unread { R.remaining reader.new ≡ R.remaining reader.old }
 {
     let inferior = &mut all[place];
@@ -268,7 +268,7 @@ fn look_back_at<R: Wish>(
 fn go_to_at(all: &mut [Inferior], place: usize, to: Position) -> Result<bool, PlayFault>
     requires { place < length all.old }
     ensures back { AreBack all.old all.new }
-    ensures others { (k : ℕ) → k ≢ place → slice_get all.new k ≡ slice_get all.old k }
+    ensures others { OthersStay place all.old all.new }
 {
     let inferior = &mut all[place];
     inferior.debugger.go_to(to)
@@ -393,7 +393,7 @@ fn later_of<R: Wish>(
     requires apart { last.place ≢ place }
     ensures back { AreBack all.old all.new }
     ensures later { IfOk result (λ s. IsLaterOf all.old all.new last.place last.stop place s.place s.stop) }
-    ensures others { (k : ℕ) → k ≢ place → slice_get all.new k ≡ slice_get all.old k }
+    ensures others { OthersStay place all.old all.new }
     ensures unread { R.remaining reader.new ≡ R.remaining reader.old }
 {
     let event = event_at(all, last.place);

@@ -19,6 +19,10 @@ pub record LinksState : Type 0 where
   pub has_put_all : Bool
   pub is_behind : Bool
 
+-- the ends are those from before
+abbrev pub KeepsEnds : LinksState → LinksState → Type 0
+KeepsEnds old new = new.ends ≡ old.ends
+
 -- what holds of the ends that a process has
 pub record AreLinks (l : EndsState) (puts : List Traffic) (takes : List Takings) (turn : ℕ) : Type 0 where
   pub own : l.own < l.n

@@ -7,6 +7,7 @@ ghost use Rattle.om_process.specs.Core.{cluster_size};
 ghost use Rattle.om_links.specs.Network.{ArePuts, AreTakes, IsNetwork};
 ghost use Rattle.om_links.specs.Wiring.{HasEnds};
 ghost use Rattle.om_links.specs.Dropping.{AreAllOrNone};
+ghost use Rattle.om_links.specs.Links.{KeepsEnds};
 
 use crate::network::Ends;
 use crate::received::Received;
@@ -313,7 +314,7 @@ impl<'a> Links<'a> {
 
     /// Has all messages that are kept put once more.
     pub fn resend(&mut self)
-        ensures ends { self.new.ends ≡ self.old.ends }
+        ensures ends { KeepsEnds self.old self.new }
         ensures put { self.new.put ≡ self.old.put }
         ensures taken { self.new.taken ≡ self.old.taken }
         ensures all { self.new.has_put_all ≡ self.old.has_put_all }
@@ -327,7 +328,7 @@ impl<'a> Links<'a> {
     /// received, as it stands. The others it would refuse as received before; and where it goes back, all that is kept is put once more
     /// after that round.
     pub fn resend_put(&mut self)
-        ensures ends { self.new.ends ≡ self.old.ends }
+        ensures ends { KeepsEnds self.old self.new }
         ensures put { self.new.put ≡ self.old.put }
         ensures taken { self.new.taken ≡ self.old.taken }
         ensures all { self.new.has_put_all ≡ self.old.has_put_all }
@@ -397,7 +398,7 @@ impl<'a> Links<'a> {
     ) -> Result<(), AllocError>
         requires own { core.now.own ≡ self.old.ends.own }
         requires size { cluster_size core.now.now ≡ self.old.ends.n }
-        ensures ends { self.new.ends ≡ self.old.ends }
+        ensures ends { KeepsEnds self.old self.new }
         ensures taken { self.new.taken ≡ self.old.taken }
         ensures behind { self.new.is_behind ≡ not self.new.has_put_all }
     {
@@ -439,7 +440,7 @@ impl<'a> Links<'a> {
         requires size { cluster_size core.now.now ≡ self.old.ends.n }
         requires to { to < self.old.ends.n }
         requires behind { self.old.is_behind ≡ not self.old.has_put_all }
-        ensures ends { self.new.ends ≡ self.old.ends }
+        ensures ends { KeepsEnds self.old self.new }
         ensures taken { self.new.taken ≡ self.old.taken }
         ensures behind { self.new.is_behind ≡ not self.new.has_put_all }
     {
@@ -471,7 +472,7 @@ impl<'a> Links<'a> {
         requires own { core.now.own ≡ self.old.ends.own }
         requires size { cluster_size core.now.now ≡ self.old.ends.n }
         requires to { to < self.old.ends.n }
-        ensures ends { self.new.ends ≡ self.old.ends }
+        ensures ends { KeepsEnds self.old self.new }
         ensures taken { self.new.taken ≡ self.old.taken }
         ensures all { self.new.has_put_all ≡ self.old.has_put_all }
         ensures behind { self.new.is_behind ≡ self.old.is_behind }
@@ -495,7 +496,7 @@ impl<'a> Links<'a> {
 
     /// Takes a message from one of the senders, each in its turn, if there is one.
     pub fn take<R: Wait>(&mut self, rt: &R) -> Option<Taken>
-        ensures ends { self.new.ends ≡ self.old.ends }
+        ensures ends { KeepsEnds self.old self.new }
         ensures put { self.new.put ≡ self.old.put }
         ensures all { self.new.has_put_all ≡ self.old.has_put_all }
         ensures behind { self.new.is_behind ≡ self.old.is_behind }
@@ -520,7 +521,7 @@ impl<'a> Links<'a> {
     // Takes a message from the next sender that may have put one, if there is one. Of an inbox that was empty its sender tells
     // once more.
     fn take_next<R: Wait>(&mut self, rt: &R) -> Option<Taken>
-        ensures ends { self.new.ends ≡ self.old.ends }
+        ensures ends { KeepsEnds self.old self.new }
         ensures put { self.new.put ≡ self.old.put }
         ensures all { self.new.has_put_all ≡ self.old.has_put_all }
         ensures behind { self.new.is_behind ≡ self.old.is_behind }
@@ -546,7 +547,7 @@ impl<'a> Links<'a> {
     // taken: of each other message it tells still, and sets the mark anew, since it counts one before it tells of it.
     fn count_taken(&mut self, from: usize)
         requires { from < self.old.ends.n }
-        ensures ends { self.new.ends ≡ self.old.ends }
+        ensures ends { KeepsEnds self.old self.new }
         ensures put { self.new.put ≡ self.old.put }
         ensures all { self.new.has_put_all ≡ self.old.has_put_all }
         ensures behind { self.new.is_behind ≡ self.old.is_behind }
@@ -569,7 +570,7 @@ impl<'a> Links<'a> {
 
     /// Drops what has come, and says whether anything had.
     pub fn drain<R: Wait>(&mut self, rt: &R) -> bool
-        ensures ends { self.new.ends ≡ self.old.ends }
+        ensures ends { KeepsEnds self.old self.new }
         ensures put { self.new.put ≡ self.old.put }
         ensures all { self.new.has_put_all ≡ self.old.has_put_all }
         ensures behind { self.new.is_behind ≡ self.old.is_behind }

@@ -7,7 +7,7 @@ ghost use Rattle.sqlite.specs.Files.{file_state};
 ghost use Rattle.sqlite.specs.Held.{state};
 ghost use Rattle.om_tables.specs.Store.{HasBothTables, IsFormed, content_in, is_sure};
 ghost use Rattle.om_commands.specs.Command.{IsSilent};
-ghost use Rattle.om_look_commands.specs.Looks.{IsShownWithBodies, IsSoIn};
+ghost use Rattle.om_look_commands.specs.Looks.{IsShownWithBodies, IsSoIn, LeavesTables, RefusesWithoutTables};
 ghost use Rattle.om_commands.specs.Replay.{IsNoMatterOfContent};
 ghost use Rattle.om_ledger_text.specs.Shown.{IsLedgerShown};
 ghost use Rattle.om_look.specs.Show.{IsShown};
@@ -86,10 +86,9 @@ pub fn show_bodies_over<S: Alter + Drop, W: Write>(
         × AreBodies form (content_in (state S.Store conn).now) bodies
         × Appends (W.contents writer.old) (W.contents writer.new) (text ++ bodies)) }
     ensures error { IfErr result.0 IsNoMatterOfContent }
-    ensures no_tables { (HasBothTables (state S.Store conn).now.schema → ⊥) → result ≡ (Err CommandError.StoreFault, conn) }
+    ensures no_tables { RefusesWithoutTables (state S.Store conn) conn result }
     ensures silent { IfErr result.0 (λ error. IsSilent error (Keeps (W.contents writer.old) (W.contents writer.new))) }
-    ensures same { IsTrue (is_sure (state S.Store result.1)) → IsFormed (state S.Store conn)
-        → content_in (state S.Store result.1).now ≡ content_in (state S.Store conn).now }
+    ensures same { LeavesTables (state S.Store conn) (state S.Store result.1) }
 {
     match SqlStable::adopt(alloc, conn) {
         Ok(mut store) => {

@@ -7,7 +7,7 @@ ghost use Rattle.sqlite.specs.Held.{state};
 ghost use Rattle.om_tables.specs.Store.{HasBothTables, IsFormed, content_in, is_sure};
 ghost use Rattle.om_commands.specs.Command.{IsSilent};
 ghost use Rattle.om_commands.specs.Replay.{IsNoMatterOfContent, IsReplayError, IsReplayText};
-ghost use Rattle.om_look_commands.specs.Looks.{IsErrorIn, IsSoIn};
+ghost use Rattle.om_look_commands.specs.Looks.{IsErrorIn, IsSoIn, LeavesTables, RefusesWithoutTables};
 
 use crate::opening::{in_memory, known, opened};
 use om_commands::replay::replay;
@@ -34,10 +34,9 @@ pub fn replay_over<S: Alter + Drop, W: Write>(
         × Appends (W.contents writer.old) (W.contents writer.new) text) }
     ensures error { IsTrue (is_sure (state S.Store result.1)) → IsFormed (state S.Store conn)
         → IfErr result.0 (IsReplayError (content_in (state S.Store conn).now) interval) }
-    ensures no_tables { (HasBothTables (state S.Store conn).now.schema → ⊥) → result ≡ (Err CommandError.StoreFault, conn) }
+    ensures no_tables { RefusesWithoutTables (state S.Store conn) conn result }
     ensures silent { IfErr result.0 (λ error. IsSilent error (Keeps (W.contents writer.old) (W.contents writer.new))) }
-    ensures same { IsTrue (is_sure (state S.Store result.1)) → IsFormed (state S.Store conn)
-        → content_in (state S.Store result.1).now ≡ content_in (state S.Store conn).now }
+    ensures same { LeavesTables (state S.Store conn) (state S.Store result.1) }
 {
     match SqlStable::adopt(alloc, conn) {
         Ok(mut store) => {

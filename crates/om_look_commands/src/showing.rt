@@ -10,7 +10,7 @@ ghost use Rattle.om_commands.specs.Replay.{IsNoMatterOfContent};
 ghost use Rattle.om_ledger_text.specs.Shown.{IsLedgerShown};
 ghost use Rattle.om_look.specs.Show.{IsShown};
 ghost use Rattle.om_stable.specs.Calls.{IsCleanCall, UsesStore};
-ghost use Rattle.om_look_commands.specs.Looks.{IsSoIn};
+ghost use Rattle.om_look_commands.specs.Looks.{IsSoIn, LeavesTables, RefusesWithoutTables};
 
 use crate::opening::{in_memory, known, opened};
 use om_commands::show::show;
@@ -56,10 +56,9 @@ pub fn show_over<S: Alter + Drop, W: Write>(
         → OnOk result.0 ((text : List ℕ) × IsShown (content_in (state S.Store conn).now) text
         × Appends (W.contents writer.old) (W.contents writer.new) text) }
     ensures error { IfErr result.0 IsNoMatterOfContent }
-    ensures no_tables { (HasBothTables (state S.Store conn).now.schema → ⊥) → result ≡ (Err CommandError.StoreFault, conn) }
+    ensures no_tables { RefusesWithoutTables (state S.Store conn) conn result }
     ensures silent { IfErr result.0 (λ error. IsSilent error (Keeps (W.contents writer.old) (W.contents writer.new))) }
-    ensures same { IsTrue (is_sure (state S.Store result.1)) → IsFormed (state S.Store conn)
-        → content_in (state S.Store result.1).now ≡ content_in (state S.Store conn).now }
+    ensures same { LeavesTables (state S.Store conn) (state S.Store result.1) }
 {
     match SqlStable::adopt(alloc, conn) {
         Ok(mut store) => {

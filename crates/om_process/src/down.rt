@@ -1,7 +1,7 @@
 //! Processes that are down, and how processes go on after a round of recovery.
 
 ghost use Rattle.std.specs.Prelude.{◌≡◌, [], IfErr, IfOk, IsErrOf, OnErr, OnOk, length};
-ghost use Rattle.om_stable.specs.Calls.{IsCleanCall, UsesStore};
+ghost use Rattle.om_stable.specs.Calls.{IsCleanCall, UsesStore, LeavesContent, LeavesRefused};
 ghost use Rattle.om_stable.specs.Content.{kept_by_cut};
 ghost use Rattle.om_process.specs.Core.{cluster_size};
 ghost use Rattle.om_process.specs.Resumes.{resumed};
@@ -82,8 +82,7 @@ impl Down {
         ensures only { IsCleanCall S.is_clean S.IsSound store.old store.new
             → CanReplay (the_process self.pid self.n) (S.content store.old) verdict.now.r
             → IfErr result (λ refusal. IsNoMatterOfContent refusal.1) }
-        ensures same { IsCleanCall S.is_clean S.IsSound store.old store.new
-            → OnErr result (S.content store.new ≡ S.content store.old) }
+        ensures same { LeavesRefused S.content S.is_clean S.IsSound store.old result store.new }
         ensures used { UsesStore S.failed S.is_clean S.IsSound store.old (IsErrOf result (self, ReplayFault.Fault)) store.new }
     {
         match self.come_back(alloc, store, starts, verdict) {
@@ -114,8 +113,7 @@ impl Down {
         ensures starts { IfOk result (λ core. core.starts ≡ starts.now) }
         ensures refused { IsCleanCall S.is_clean S.IsSound store.old store.new
             → IfErr result (λ fault. Refuses (the_process self.now.pid self.now.n) (S.content store.old) verdict.now.r fault) }
-        ensures same { IsCleanCall S.is_clean S.IsSound store.old store.new
-            → OnErr result (S.content store.new ≡ S.content store.old) }
+        ensures same { LeavesRefused S.content S.is_clean S.IsSound store.old result store.new }
         ensures used { UsesStore S.failed S.is_clean S.IsSound store.old (IsErrOf result ReplayFault.Fault) store.new }
     {
         let mut core = self.replayed(alloc, store, verdict.r)?;
@@ -142,7 +140,7 @@ impl Down {
         ensures pending { IfOk result (λ core. core.pending ≡ []) }
         ensures refused { IsCleanCall S.is_clean S.IsSound store.old store.new
             → IfErr result (λ fault. Refuses (the_process self.now.pid self.now.n) (S.content store.old) x fault) }
-        ensures same { IsCleanCall S.is_clean S.IsSound store.old store.new → S.content store.new ≡ S.content store.old }
+        ensures same { LeavesContent S.content S.is_clean S.IsSound store.old store.new }
         ensures used { UsesStore S.failed S.is_clean S.IsSound store.old (IsErrOf result ReplayFault.Fault) store.new }
     {
         let checkpoint = beginning(alloc, store, x)?;

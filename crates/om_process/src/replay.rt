@@ -3,7 +3,7 @@
 ghost use Rattle.std.specs.Prelude.{◌≡◌, ◌≢◌, ◌≤◌, ◌∷◌, [], IfErr, IfOk, IsErrOf, length, replicate};
 ghost use Rattle.om_format.specs.CheckpointViews.{checkpoint_record};
 ghost use Rattle.om_format.specs.Checkpoints.{IsSpelled};
-ghost use Rattle.om_stable.specs.Calls.{IsCleanCall, UsesStore};
+ghost use Rattle.om_stable.specs.Calls.{IsCleanCall, UsesStore, LeavesContent};
 ghost use Rattle.om_stable.specs.declared.error.StoreError.{StoreError};
 ghost use Rattle.om_process.specs.Core.{cluster_size};
 ghost use Rattle.om_process.specs.Stored.{anyone, BeginsWith, CanReplay, IsNoMatterOfContent, IsReplay, Refuses};
@@ -101,7 +101,7 @@ pub(crate) fn beginning<S: Stable>(
         → IfOk result (λ checkpoint. BeginsWith anyone (S.content store.old) x (checkpoint_record checkpoint)) }
     ensures refused { IsCleanCall S.is_clean S.IsSound store.old store.new
         → IfErr result (λ fault. RefusesStart (S.content store.old) x fault) }
-    ensures same { IsCleanCall S.is_clean S.IsSound store.old store.new → S.content store.new ≡ S.content store.old }
+    ensures same { LeavesContent S.content S.is_clean S.IsSound store.old store.new }
     ensures used { UsesStore S.failed S.is_clean S.IsSound store.old (IsErrOf result ReplayFault.Fault) store.new }
 {
     match store.effective(alloc, x) {
@@ -130,7 +130,7 @@ impl ProcCore {
         ensures inc { IfOk result (λ core. core.inc ≡ 0) }
         ensures round { IfOk result (λ core. core.round ≡ 0) }
         ensures starts { IfOk result (λ core. core.starts ≡ replicate (cluster_size core.now) (0 ∷ [])) }
-        ensures same { IsCleanCall S.is_clean S.IsSound store.old store.new → S.content store.new ≡ S.content store.old }
+        ensures same { LeavesContent S.content S.is_clean S.IsSound store.old store.new }
         ensures used { UsesStore S.failed S.is_clean S.IsSound store.old (IsErrOf result ReplayFault.Fault) store.new }
     {
         let found = match store.receipts(alloc, checkpoint.head.interval, x) {
@@ -163,7 +163,7 @@ impl ProcCore {
         ensures inc { IfOk result (λ core. core.inc ≡ 0) }
         ensures round { IfOk result (λ core. core.round ≡ 0) }
         ensures starts { IfOk result (λ core. core.starts ≡ replicate (cluster_size core.now) (0 ∷ [])) }
-        ensures same { IsCleanCall S.is_clean S.IsSound store.old store.new → S.content store.new ≡ S.content store.old }
+        ensures same { LeavesContent S.content S.is_clean S.IsSound store.old store.new }
         ensures used { UsesStore S.failed S.is_clean S.IsSound store.old (IsErrOf result ReplayFault.Fault) store.new }
     {
         let checkpoint = beginning(alloc, store, x)?;

@@ -3,7 +3,7 @@
 ghost use Rattle.std.specs.Prelude.{◌≡◌, ◌≢◌, ◌<◌, ◌≤◌, ◌↔◌, ◌++◌, ◌∷◌, [], IfOk, IsErrOf, IsSome, None, OnErr, OnOk, length, map, replicate};
 ghost use Rattle.std.specs.FinMap.{get};
 ghost use Rattle.om_isa.specs.Memory.{IsMemorySize};
-ghost use Rattle.om_stable.specs.Calls.{IsCleanCall, UsesStore};
+ghost use Rattle.om_stable.specs.Calls.{IsCleanCall, UsesStore, LeavesRefused};
 ghost use Rattle.om_stable.specs.declared.error.StoreError.{StoreError};
 ghost use Rattle.om_process.specs.Process.{empty_queue};
 ghost use Rattle.om_process.specs.steps.Pieces.{started_with};
@@ -104,8 +104,7 @@ impl ProcCore {
             → OnOk result (get (S.content store.old).checkpoints 0 ≡ None) }
         ensures present { IsCleanCall S.is_clean S.IsSound store.old store.new
             → IsErrOf result StartFault.Present → IsSome (get (S.content store.old).checkpoints 0) }
-        ensures refused { IsCleanCall S.is_clean S.IsSound store.old store.new
-            → OnErr result (S.content store.new ≡ S.content store.old) }
+        ensures refused { LeavesRefused S.content S.is_clean S.IsSound store.old result store.new }
         ensures used { UsesStore S.failed S.is_clean S.IsSound store.old (IsErrOf result StartFault.Fault) store.new }
     {
         let core = ProcCore::at_start(alloc, image, size, ext, pid, n)?;

@@ -3,7 +3,7 @@
 ghost use Rattle.std.specs.Prelude.{◌≡◌, ◌+◌, ◌≤◌, ◌++◌, ℕ, IfOk, IsErrOf, IsSome, None, OnErr, OnOk, Some, drop, length, map, slice_get, take, vec_capacity, vec_len};
 ghost use Rattle.std.specs.FinMap.{get};
 ghost use Rattle.om_format.specs.Queues.{queue_record};
-ghost use Rattle.om_stable.specs.Calls.{IsCleanCall, UsesStore};
+ghost use Rattle.om_stable.specs.Calls.{IsCleanCall, UsesStore, LeavesRefused};
 ghost use Rattle.om_stable.specs.Content.{IsFree, IsTaken, bytes_of};
 ghost use Rattle.om_process.specs.Core.{LoggedRecord};
 ghost use Rattle.om_process.specs.Stored.{IsReceiptAt};
@@ -37,8 +37,7 @@ impl ProcCore {
             → OnOk result (IsFree (S.content store.old).receipts (first_logged self.old) (length self.old.log)) }
         ensures present { IsCleanCall S.is_clean S.IsSound store.old store.new → IsErrOf result StoreError.Present
             → IsTaken (S.content store.old).receipts (first_logged self.old) (length self.old.log) }
-        ensures refused { IsCleanCall S.is_clean S.IsSound store.old store.new
-            → OnErr result (S.content store.new ≡ S.content store.old) }
+        ensures refused { LeavesRefused S.content S.is_clean S.IsSound store.old result store.new }
         ensures used { UsesStore S.failed S.is_clean S.IsSound store.old (IsErrOf result StoreError.Fault) store.new }
     {
         let count = self.log.len();
@@ -66,8 +65,7 @@ impl ProcCore {
             → OnOk result (IsFree (S.content store.old).receipts (first_logged self.old) (length (take k self.old.log))) }
         ensures present { IsCleanCall S.is_clean S.IsSound store.old store.new → IsErrOf result StoreError.Present
             → IsTaken (S.content store.old).receipts (first_logged self.old) (length (take k self.old.log)) }
-        ensures refused { IsCleanCall S.is_clean S.IsSound store.old store.new
-            → OnErr result (S.content store.new ≡ S.content store.old) }
+        ensures refused { LeavesRefused S.content S.is_clean S.IsSound store.old result store.new }
         ensures used { UsesStore S.failed S.is_clean S.IsSound store.old (IsErrOf result StoreError.Fault) store.new }
     {
         let due = first_of(&self.log, k);
@@ -95,8 +93,7 @@ impl ProcCore {
             → OnOk result (get (S.content store.old).checkpoints self.old.now.interval ≡ None) }
         ensures present { IsCleanCall S.is_clean S.IsSound store.old store.new → IsErrOf result StoreError.Present
             → IsSome (get (S.content store.old).checkpoints self.old.now.interval) }
-        ensures refused { IsCleanCall S.is_clean S.IsSound store.old store.new
-            → OnErr result (S.content store.new ≡ S.content store.old) }
+        ensures refused { LeavesRefused S.content S.is_clean S.IsSound store.old result store.new }
         ensures used { UsesStore S.failed S.is_clean S.IsSound store.old (IsErrOf result StoreError.Fault) store.new }
     {
         self.pending.try_reserve(1)?;
@@ -118,8 +115,7 @@ impl ProcCore {
             → OnOk result (get (S.content store.old).checkpoints self.now.now.interval ≡ None) }
         ensures present { IsCleanCall S.is_clean S.IsSound store.old store.new
             → IsErrOf result StoreError.Present → IsSome (get (S.content store.old).checkpoints self.now.now.interval) }
-        ensures refused { IsCleanCall S.is_clean S.IsSound store.old store.new
-            → OnErr result (S.content store.new ≡ S.content store.old) }
+        ensures refused { LeavesRefused S.content S.is_clean S.IsSound store.old result store.new }
         ensures used { UsesStore S.failed S.is_clean S.IsSound store.old (IsErrOf result StoreError.Fault) store.new }
     {
         let bytes = self.encoded(alloc)?;

@@ -11,7 +11,7 @@ ghost use Rattle.om_restart.specs.Beyond.{HasReceipt, HasStray};
 ghost use Rattle.om_restart.specs.Outputs.{IsRowOfOutput};
 ghost use Rattle.om_restart.specs.Senders.{AreSendersIn, GoOnAlong};
 ghost use Rattle.om_restart.specs.declared.finding.FindFault.TheVariants.{Memory};
-ghost use Rattle.om_stable.specs.Calls.{IsCleanCall, UsesStore};
+ghost use Rattle.om_stable.specs.Calls.{IsCleanCall, UsesStore, LeavesContent};
 ghost use Rattle.om_stable.specs.Content.{Content, rows_of};
 ghost use Rattle.om_stable.specs.Ledger.{in_table};
 
@@ -106,7 +106,7 @@ pub fn find<S: Ledger>(
         → IfOk result (λ found. GoOnAlong own n (S.content store.old) found.rows.items found.kept found.senders.items) }
     ensures receipt { IsCleanCall S.is_clean S.IsSound store.old store.new
         → IfOk result (λ found. IsTrue found.has_receipt ↔ HasReceipt (S.content store.old) found.rows.items) }
-    ensures same { IsCleanCall S.is_clean S.IsSound store.old store.new → S.content store.new ≡ S.content store.old }
+    ensures same { LeavesContent S.content S.is_clean S.IsSound store.old store.new }
     ensures used { UsesStore S.failed S.is_clean S.IsSound store.old (IsErrOf result FindFault.Fault) store.new }
 {
     let tables = tables_of(alloc, store, own, n, image)?;
@@ -138,7 +138,7 @@ fn tables_of<S: Ledger>(
         → IfOk result (λ tables. IsAboutOf own n (program_of image.now) (map.entries (S.ledger store.old).about) tables.has_about) }
     ensures senders { IsCleanCall S.is_clean S.IsSound store.old store.new
         → IfOk result (λ tables. AreSendersIn (map.entries (S.ledger store.old).senders) tables.senders.items) }
-    ensures same { IsCleanCall S.is_clean S.IsSound store.old store.new → S.content store.new ≡ S.content store.old }
+    ensures same { LeavesContent S.content S.is_clean S.IsSound store.old store.new }
     ensures used { UsesStore S.failed S.is_clean S.IsSound store.old (IsErrOf result FindFault.Fault) store.new }
 {
     let about = rows_in(alloc, store, LedgerTable::About)?;
@@ -155,7 +155,7 @@ fn rows_in<S: Ledger>(
 ) -> Result<Vec<(u64, Vec<u8>)>, FindFault>
     ensures rows { IsCleanCall S.is_clean S.IsSound store.old store.new
         → IfOk result (λ rows. rows_of rows.items ≡ map.entries (in_table (S.ledger store.old) table)) }
-    ensures same { IsCleanCall S.is_clean S.IsSound store.old store.new → S.content store.new ≡ S.content store.old }
+    ensures same { LeavesContent S.content S.is_clean S.IsSound store.old store.new }
     ensures tables { IsCleanCall S.is_clean S.IsSound store.old store.new → S.ledger store.new ≡ S.ledger store.old }
     ensures used { UsesStore S.failed S.is_clean S.IsSound store.old (IsErrOf result FindFault.Fault) store.new }
 {

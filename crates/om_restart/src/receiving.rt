@@ -7,7 +7,7 @@ ghost use Rattle.om_process.specs.declared.limits.TheConstants.{LAST_INTERVAL};
 ghost use Rattle.om_restart.specs.Beyond.{HasStray};
 ghost use Rattle.om_restart.specs.declared.finding.FindFault.{FindFault};
 ghost use Rattle.om_restart.specs.steps.Receiving.{AreReceivedBy, GoOnBehind, IsFirstChange, IsFrom};
-ghost use Rattle.om_stable.specs.Calls.{IsCleanCall, UsesStore};
+ghost use Rattle.om_stable.specs.Calls.{IsCleanCall, UsesStore, LeavesContent};
 ghost use Rattle.om_stable.specs.Content.{between, rows_of};
 
 use crate::finding::FindFault;
@@ -93,7 +93,7 @@ pub(crate) fn has_strays<S: Stable>(
 ) -> Result<bool, FindFault>
     ensures strays { IsCleanCall S.is_clean S.IsSound store.old store.new
         → IfOk result (λ has. IsTrue has ↔ HasStray (S.content store.old) rows.now) }
-    ensures same { IsCleanCall S.is_clean S.IsSound store.old store.new → S.content store.new ≡ S.content store.old }
+    ensures same { LeavesContent S.content S.is_clean S.IsSound store.old store.new }
     ensures used { UsesStore S.failed S.is_clean S.IsSound store.old (IsErrOf result FindFault.Fault) store.new }
 {
     let strays = receipts_after(alloc, store, newest(rows))?;
@@ -117,7 +117,7 @@ fn receipts_after<S: Stable>(
 ) -> Result<Vec<(u32, Vec<u8>)>, FindFault>
     ensures found { IsCleanCall S.is_clean S.IsSound store.old store.new
         → IfOk result (λ found. rows_of found.items ≡ between (S.content store.old).receipts after LAST_INTERVAL) }
-    ensures same { IsCleanCall S.is_clean S.IsSound store.old store.new → S.content store.new ≡ S.content store.old }
+    ensures same { LeavesContent S.content S.is_clean S.IsSound store.old store.new }
     ensures used { UsesStore S.failed S.is_clean S.IsSound store.old (IsErrOf result FindFault.Fault) store.new }
 {
     match store.receipts(alloc, after, LAST_INTERVAL) {

@@ -1,10 +1,11 @@
 -- What is answered to a cluster file and what refuses it, by how its cluster is run.
-use Rattle.std.specs.Prelude.{ℕ, List, Option}
+use Rattle.std.specs.Prelude.{ℕ, IfErr, List, Option, Result}
+use Rattle.std.specs.Io.KnownBytes.{Keeps}
 use Rattle.om_process.specs.declared.status.Status.{Status}
 use Rattle.om_commands.specs.declared.bytes_text.BytesForm.{BytesForm}
 use Rattle.om_commands.specs.declared.error.CommandError.{CommandError}
 use Rattle.om_commands.specs.declared.error.CommandError.TheVariants as errors
-use Rattle.om_commands.specs.Command.{AnswersScript, IsScript}
+use Rattle.om_commands.specs.Command.{AnswersScript, IsScript, IsSilent}
 use Rattle.om_run_commands.specs.Check.{IsFailureFreeIn}
 use Rattle.om_run_commands.specs.ClusterScript.{ClusterFile, cluster_file_line, no_settings}
 use Rattle.om_run_commands.specs.Follow.{IsFollowedAnswer, IsFollowedRawAnswer, IsPartOf, IsRawPartOf, told_text}
@@ -41,6 +42,10 @@ abbrev pub IsFollowing : RunMode → Type 0
 IsFollowing modes.Follow = Unit {0}
 IsFollowing (modes.FollowRaw name) = Unit {0}
 IsFollowing _ = ⊥
+
+-- a run in no such mode that was refused wrote nothing, unless it was the writer that refused
+abbrev pub IsSilentIn : {A : Type 0} → RunMode → Result A CommandError → Option (List ℕ) → Option (List ℕ) → Type 0
+IsSilentIn mode result before after = (IsFollowing mode → ⊥) → IfErr result (λ error. IsSilent error (Keeps before after))
 
 -- what was written of a run of a script in such a mode that came to no end
 abbrev pub IsPartOfScriptIn : RunMode → BytesForm → Type 0 → ClusterFile → Option (List ℕ) → Option (List ℕ) → Type 0

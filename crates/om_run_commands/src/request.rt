@@ -3,7 +3,7 @@
 ghost use Rattle.std.specs.Prelude.{◌≡◌, ◌≤◌, ℕ, List, IsTrue, length, IfSome, IfErr, IfOk};
 ghost use Rattle.std.specs.Io.KnownBytes.{Appends, Keeps};
 ghost use Rattle.om_commands.specs.Command.{IsSilent};
-ghost use Rattle.om_run_commands.specs.Modes.{IsAnswerIn, IsErrorIn, IsFollowing, IsPartIn, IsPartOfScriptIn, IsRunIn};
+ghost use Rattle.om_run_commands.specs.Modes.{IsAnswerIn, IsErrorIn, IsFollowing, IsPartIn, IsPartOfScriptIn, IsRunIn, IsSilentIn};
 ghost use Rattle.om_run_commands.specs.Run.{IsByKind};
 ghost use Rattle.om_run_commands.specs.steps.Modes.{IsErrorOfScriptIn};
 
@@ -65,8 +65,7 @@ pub fn run_file<
         × IsRunIn mode.entry form ((store : O.Store) → IsTrue (O.Store.is_clean store)) statuses.items bytes text
         × Appends (W.contents writer) (W.contents result.1) text)) }
     ensures error { IfSome (I.remaining reader.old) (λ bytes. IfErr result.0 (IsErrorIn mode.entry bytes)) }
-    ensures silent { (IsFollowing mode.entry → ⊥)
-        → IfErr result.0 (λ error. IsSilent error (Keeps (W.contents writer) (W.contents result.1))) }
+    ensures silent { IsSilentIn mode.entry result.0 (W.contents writer) (W.contents result.1) }
     ensures partly { IsFollowing mode.entry → IfSome (I.remaining reader.old) (λ bytes. IfErr result.0 (λ error. IsByKind error
         (IsPartIn mode.entry form ((store : O.Store) → IsTrue (O.Store.is_clean store)) bytes (W.contents writer) (W.contents result.1))
         (Keeps (W.contents writer) (W.contents result.1)))) }
@@ -99,8 +98,7 @@ fn run_read<R: Threads + Wait + Clock + Sync, O: Opener<R> + Sync, C: RunContext
         × IsAnswerIn mode.entry form ((store : O.Store) → IsTrue (O.Store.is_clean store)) statuses.items script text
         × Appends (W.contents writer) (W.contents result.1) text) }
     ensures error { IfErr result.0 (IsErrorOfScriptIn mode.entry script) }
-    ensures silent { (IsFollowing mode.entry → ⊥)
-        → IfErr result.0 (λ error. IsSilent error (Keeps (W.contents writer) (W.contents result.1))) }
+    ensures silent { IsSilentIn mode.entry result.0 (W.contents writer) (W.contents result.1) }
     ensures partly { IsFollowing mode.entry → IfErr result.0 (λ error. IsByKind error
         (IsPartOfScriptIn mode.entry form ((store : O.Store) → IsTrue (O.Store.is_clean store)) script (W.contents writer) (W.contents result.1))
         (Keeps (W.contents writer) (W.contents result.1))) }
@@ -157,8 +155,7 @@ fn run_script<
         × IsAnswerIn mode.entry form ((store : O.Store) → IsTrue (O.Store.is_clean store)) statuses.items script.now text
         × Appends (W.contents writer) (W.contents result.1) text) }
     ensures error { IfErr result.0 (IsErrorOfScriptIn mode.entry script.now) }
-    ensures silent { (IsFollowing mode.entry → ⊥)
-        → IfErr result.0 (λ error. IsSilent error (Keeps (W.contents writer) (W.contents result.1))) }
+    ensures silent { IsSilentIn mode.entry result.0 (W.contents writer) (W.contents result.1) }
     ensures partly { IsFollowing mode.entry → IfErr result.0 (λ error. IsByKind error
         (IsPartOfScriptIn mode.entry form ((store : O.Store) → IsTrue (O.Store.is_clean store)) script.now (W.contents writer) (W.contents result.1))
         (Keeps (W.contents writer) (W.contents result.1))) }
@@ -208,8 +205,7 @@ fn run_in<R: Threads + Wait + Clock + Sync, O: Opener<R> + Sync, C: RunContext, 
         × IsAnswerIn mode.entry form ((store : O.Store) → IsTrue (O.Store.is_clean store)) statuses.items script.now text
         × Appends (W.contents writer) (W.contents result.1) text) }
     ensures error { IfErr result.0 (IsErrorOfScriptIn mode.entry script.now) }
-    ensures silent { (IsFollowing mode.entry → ⊥)
-        → IfErr result.0 (λ error. IsSilent error (Keeps (W.contents writer) (W.contents result.1))) }
+    ensures silent { IsSilentIn mode.entry result.0 (W.contents writer) (W.contents result.1) }
     ensures partly { IsFollowing mode.entry → IfErr result.0 (λ error. IsByKind error
         (IsPartOfScriptIn mode.entry form ((store : O.Store) → IsTrue (O.Store.is_clean store)) script.now (W.contents writer) (W.contents result.1))
         (Keeps (W.contents writer) (W.contents result.1))) }

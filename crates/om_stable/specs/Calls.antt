@@ -1,5 +1,6 @@
 -- What holds of every call of a store, whatever it answers.
-use Rattle.std.specs.Prelude.{◌≡◌, ℕ, ◌≤◌, Bool, IsTrue, Option, Some}
+use Rattle.std.specs.Prelude.{◌≡◌, ℕ, ◌≤◌, Bool, IsTrue, Option, Some, Result, OnErr}
+use Rattle.om_stable.specs.Content.{Content}
 use Rattle.om_stable.specs.Count.{Rose}
 use Rattle.om_stable.specs.declared.error.StoreError.{StoreError}
 use Rattle.om_stable.specs.declared.error.StoreError.TheVariants.{Fault}
@@ -23,3 +24,11 @@ pub record UsesStore {S : Type 0} (failed : S → ℕ) (is_clean : S → Bool) (
   pub count : failed old ≤ failed new
   pub clean : IsTrue (is_clean new) → IsTrue (is_clean old)
   pub sound : IsTrue (is_clean new) → IsSound old → IsSound new
+
+-- a clean call leaves the content
+abbrev pub LeavesContent : {S : Type 0} → (S → Content) → (S → Bool) → (S → Type 0) → S → S → Type 0
+LeavesContent content is_clean IsSound old new = IsCleanCall is_clean IsSound old new → content new ≡ content old
+
+-- a clean call that is refused does
+abbrev pub LeavesRefused : {S A E : Type 0} → (S → Content) → (S → Bool) → (S → Type 0) → S → Result A E → S → Type 0
+LeavesRefused content is_clean IsSound old result new = IsCleanCall is_clean IsSound old new → OnErr result (content new ≡ content old)

@@ -5,7 +5,7 @@ ghost use Rattle.std.specs.Result.{result_err};
 ghost use Rattle.std.specs.FinMap as map;
 ghost use Rattle.om_stable.specs.declared.error.StoreError.{StoreError};
 ghost use Rattle.om_stable.specs.Content.{Content, IsFree, IsTaken, IsEffective, with_receipts, with_checkpoint, between, bytes_of, rows_of, kept_by_cut, kept_by_prune};
-ghost use Rattle.om_stable.specs.Calls.{IsCall, IsCleanCall};
+ghost use Rattle.om_stable.specs.Calls.{IsCall, IsCleanCall, LeavesRefused};
 
 use crate::error::StoreError;
 use std::alloc::Global;
@@ -55,8 +55,7 @@ pub trait Stable: Drop {
         ensures present { IsCleanCall is_clean IsSound self.old self.new
             → IsErrOf result StoreError.Present
             → IsTaken (content self.old).receipts first (length recs.now) }
-        ensures refused { IsCleanCall is_clean IsSound self.old self.new
-            → OnErr result (content self.new ≡ content self.old) }
+        ensures refused { LeavesRefused content is_clean IsSound self.old result self.new }
         ensures call { IsCall failed is_clean IsSound call_gives self.old (result_err result) self.new };
 
     /// Puts a checkpoint at `x`.
@@ -68,8 +67,7 @@ pub trait Stable: Drop {
         ensures present { IsCleanCall is_clean IsSound self.old self.new
             → IsErrOf result StoreError.Present
             → IsSome (map.get (content self.old).checkpoints x) }
-        ensures refused { IsCleanCall is_clean IsSound self.old self.new
-            → OnErr result (content self.new ≡ content self.old) }
+        ensures refused { LeavesRefused content is_clean IsSound self.old result self.new }
         ensures call { IsCall failed is_clean IsSound call_gives self.old (result_err result) self.new };
 
     /// The effective checkpoint of `x`: the greatest at or below it.
@@ -107,8 +105,7 @@ pub trait Stable: Drop {
     fn cut(&mut self, alloc: Global, r: u32) -> Result<(), StoreError>
         ensures cut { IsCleanCall is_clean IsSound self.old self.new
             → OnOk result (content self.new ≡ kept_by_cut (content self.old) r) }
-        ensures refused { IsCleanCall is_clean IsSound self.old self.new
-            → OnErr result (content self.new ≡ content self.old) }
+        ensures refused { LeavesRefused content is_clean IsSound self.old result self.new }
         ensures never_present { result ≢ Err StoreError.Present }
         ensures call { IsCall failed is_clean IsSound call_gives self.old (result_err result) self.new };
 
@@ -116,8 +113,7 @@ pub trait Stable: Drop {
     fn prune(&mut self, alloc: Global, c: u32) -> Result<(), StoreError>
         ensures pruned { IsCleanCall is_clean IsSound self.old self.new
             → OnOk result (content self.new ≡ kept_by_prune (content self.old) c) }
-        ensures refused { IsCleanCall is_clean IsSound self.old self.new
-            → OnErr result (content self.new ≡ content self.old) }
+        ensures refused { LeavesRefused content is_clean IsSound self.old result self.new }
         ensures never_present { result ≢ Err StoreError.Present }
         ensures call { IsCall failed is_clean IsSound call_gives self.old (result_err result) self.new };
 

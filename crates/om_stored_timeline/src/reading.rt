@@ -7,7 +7,7 @@ ghost use Rattle.om_process.specs.Stored.{anyone, BeginsWith, IsNoMatterOfConten
 ghost use Rattle.om_process.specs.declared.limits.TheConstants.{LAST_INTERVAL};
 ghost use Rattle.om_process.specs.declared.replay.ReplayFault.{ReplayFault};
 ghost use Rattle.om_process.specs.steps.Rows.{RefusesCheckpoint, RefusesStart, damage};
-ghost use Rattle.om_stable.specs.Calls.{IsCleanCall, UsesStore};
+ghost use Rattle.om_stable.specs.Calls.{IsCleanCall, UsesStore, LeavesContent};
 ghost use Rattle.om_stable.specs.Content.{between, rows_of};
 ghost use Rattle.om_stable.specs.declared.error.StoreError.{StoreError};
 
@@ -66,7 +66,7 @@ pub(crate) fn beginning<S: Stable>(
         → IfOk result (λ checkpoint. BeginsWith anyone (S.content store.old) x (checkpoint_record checkpoint)) }
     ensures refused { IsCleanCall S.is_clean S.IsSound store.old store.new
         → IfErr result (λ fault. RefusesStart (S.content store.old) x fault) }
-    ensures same { IsCleanCall S.is_clean S.IsSound store.old store.new → S.content store.new ≡ S.content store.old }
+    ensures same { LeavesContent S.content S.is_clean S.IsSound store.old store.new }
     ensures used { UsesStore S.failed S.is_clean S.IsSound store.old (IsErrOf result ReplayFault.Fault) store.new }
 {
     match store.effective(alloc, x) {
@@ -85,7 +85,7 @@ pub(crate) fn receipts_behind<S: Stable>(
     ensures found { IsCleanCall S.is_clean S.IsSound store.old store.new
         → IfOk result (λ found. rows_of found.items ≡ between (S.content store.old).receipts c LAST_INTERVAL) }
     ensures refused { IfErr result IsNoMatterOfContent }
-    ensures same { IsCleanCall S.is_clean S.IsSound store.old store.new → S.content store.new ≡ S.content store.old }
+    ensures same { LeavesContent S.content S.is_clean S.IsSound store.old store.new }
     ensures used { UsesStore S.failed S.is_clean S.IsSound store.old (IsErrOf result ReplayFault.Fault) store.new }
 {
     match store.receipts(alloc, c, LAST_INTERVAL) {

@@ -6,7 +6,7 @@ ghost use Rattle.om_process.specs.Stored.{anyone, BeginsWith, IsNoMatterOfConten
 ghost use Rattle.om_process.specs.declared.limits.TheConstants.{LAST_INTERVAL};
 ghost use Rattle.om_process.specs.declared.replay.ReplayFault.{ReplayFault};
 ghost use Rattle.om_process.specs.steps.Rows.{RefusesStart};
-ghost use Rattle.om_stable.specs.Calls.{IsCleanCall, UsesStore};
+ghost use Rattle.om_stable.specs.Calls.{IsCleanCall, UsesStore, LeavesContent};
 ghost use Rattle.om_stable.specs.Content.{Content, between, rows_of};
 ghost use Rattle.om_stored_timeline.specs.Stored.{IsLastStored, IsStored, IsStoredAt, IsTimelineAt, RefusesStored, event_of};
 ghost use Rattle.om_timeline.specs.Timeline.{TimelineState, at, machine_here};
@@ -39,7 +39,7 @@ pub fn stored_timeline<S: Stable>(
 ) -> Result<StoredTimeline, ReplayFault>
     ensures stands { IsCleanCall S.is_clean S.IsSound store.old store.new → IfOk result (IsStored (S.content store.old) interval) }
     ensures refused { IsCleanCall S.is_clean S.IsSound store.old store.new → IfErr result (RefusesStored (S.content store.old) interval) }
-    ensures same { IsCleanCall S.is_clean S.IsSound store.old store.new → S.content store.new ≡ S.content store.old }
+    ensures same { LeavesContent S.content S.is_clean S.IsSound store.old store.new }
     ensures used { UsesStore S.failed S.is_clean S.IsSound store.old (IsErrOf result ReplayFault.Fault) store.new }
 {
     match interval {
@@ -52,7 +52,7 @@ pub fn stored_timeline<S: Stable>(
 fn at_last<S: Stable>(alloc: Global, store: &mut S) -> Result<StoredTimeline, ReplayFault>
     ensures stands { IsCleanCall S.is_clean S.IsSound store.old store.new → IfOk result (IsStored (S.content store.old) None) }
     ensures refused { IsCleanCall S.is_clean S.IsSound store.old store.new → IfErr result (RefusesStored (S.content store.old) None) }
-    ensures same { IsCleanCall S.is_clean S.IsSound store.old store.new → S.content store.new ≡ S.content store.old }
+    ensures same { LeavesContent S.content S.is_clean S.IsSound store.old store.new }
     ensures used { UsesStore S.failed S.is_clean S.IsSound store.old (IsErrOf result ReplayFault.Fault) store.new }
 {
     let x = last_of(alloc, store)?;
@@ -63,7 +63,7 @@ fn at_last<S: Stable>(alloc: Global, store: &mut S) -> Result<StoredTimeline, Re
 fn last_of<S: Stable>(alloc: Global, store: &mut S) -> Result<u32, ReplayFault>
     ensures last { IsCleanCall S.is_clean S.IsSound store.old store.new → IfOk result (IsLastStored (S.content store.old)) }
     ensures refused { IsCleanCall S.is_clean S.IsSound store.old store.new → IfErr result (RefusesStart (S.content store.old) LAST_INTERVAL) }
-    ensures same { IsCleanCall S.is_clean S.IsSound store.old store.new → S.content store.new ≡ S.content store.old }
+    ensures same { LeavesContent S.content S.is_clean S.IsSound store.old store.new }
     ensures used { UsesStore S.failed S.is_clean S.IsSound store.old (IsErrOf result ReplayFault.Fault) store.new }
 {
     let checkpoint = beginning(alloc, store, LAST_INTERVAL)?;
@@ -96,7 +96,7 @@ fn at_interval<S: Stable>(
 ) -> Result<StoredTimeline, ReplayFault>
     ensures stands { IsCleanCall S.is_clean S.IsSound store.old store.new → IfOk result (IsStoredAt (S.content store.old) x) }
     ensures refused { IsCleanCall S.is_clean S.IsSound store.old store.new → IfErr result (Refuses anyone (S.content store.old) x) }
-    ensures same { IsCleanCall S.is_clean S.IsSound store.old store.new → S.content store.new ≡ S.content store.old }
+    ensures same { LeavesContent S.content S.is_clean S.IsSound store.old store.new }
     ensures used { UsesStore S.failed S.is_clean S.IsSound store.old (IsErrOf result ReplayFault.Fault) store.new }
 {
     let checkpoint = beginning(alloc, store, x)?;
@@ -120,7 +120,7 @@ fn timeline_at<S: Stable>(
         → IsReplay (S.content store.old) x there.now
         → IfOk result (IsTimelineAt (S.content store.old) x checkpoint.now.head.pid) }
     ensures refused { IfErr result IsNoMatterOfContent }
-    ensures same { IsCleanCall S.is_clean S.IsSound store.old store.new → S.content store.new ≡ S.content store.old }
+    ensures same { LeavesContent S.content S.is_clean S.IsSound store.old store.new }
     ensures used { UsesStore S.failed S.is_clean S.IsSound store.old (IsErrOf result ReplayFault.Fault) store.new }
 {
     let head = &checkpoint.head;

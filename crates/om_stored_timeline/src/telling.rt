@@ -6,7 +6,7 @@ ghost use Rattle.om_process.specs.Replays.{process_of_checkpoint};
 ghost use Rattle.om_process.specs.Stored.{IsNoMatterOfContent};
 ghost use Rattle.om_process.specs.declared.limits.TheConstants.{LAST_INTERVAL};
 ghost use Rattle.om_process.specs.declared.replay.ReplayFault.{ReplayFault};
-ghost use Rattle.om_stable.specs.Calls.{IsCleanCall, UsesStore};
+ghost use Rattle.om_stable.specs.Calls.{IsCleanCall, UsesStore, LeavesContent};
 ghost use Rattle.om_stable.specs.Content.{Records, between, rows_of};
 ghost use Rattle.om_timeline.specs.declared.deed.Deed.{Deed};
 ghost use Rattle.om_world.specs.declared.event.Event.{Event};
@@ -48,7 +48,7 @@ pub(crate) fn told_from<S: Stable>(
     ensures told { IsCleanCall S.is_clean S.IsSound store.old store.new
         → IfOk result (IsToldFrom (S.content store.old).receipts process n begin machine) }
     ensures refused { IfErr result IsNoMatterOfContent }
-    ensures same { IsCleanCall S.is_clean S.IsSound store.old store.new → S.content store.new ≡ S.content store.old }
+    ensures same { LeavesContent S.content S.is_clean S.IsSound store.old store.new }
     ensures used { UsesStore S.failed S.is_clean S.IsSound store.old (IsErrOf result ReplayFault.Fault) store.new }
 {
     let rows = receipts_behind(alloc, store, begin)?;

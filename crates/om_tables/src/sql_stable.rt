@@ -11,7 +11,7 @@ ghost use Rattle.om_stable.specs.declared.stable.TheConstants.{INTERVALS};
 ghost use Rattle.om_tables.specs.Refusals.{TellsRefusal, out_of_memory};
 ghost use Rattle.om_tables.specs.Tables.{no_schema};
 ghost use Rattle.om_tables.specs.Store.{content_in, IsFormed, HasBothTables, LeavesCommitted, is_sure};
-ghost use Rattle.om_tables.specs.steps.Statements.{Same};
+ghost use Rattle.om_tables.specs.steps.Statements.{CountsFault, Same, StaysSure};
 ghost use Rattle.sqlite.specs.Held.{state};
 
 use crate::creating::create_tables;
@@ -143,7 +143,7 @@ impl<S: Alter> SqlStable<S> {
     ) -> Result<(), StoreError>
         requires { first + length recs.now ≤ LEDGER_NUMBERS }
         ensures tells { TellsRefusal self.new.last (result_err result) }
-        ensures fault { result_err result ≡ Some Fault → Rose self.old.failures self.new.failures }
+        ensures fault { CountsFault (result_err result) self.old.failures self.new.failures }
         ensures count { self.old.failures ≤ self.new.failures }
     {
         let put = further::put_rows(&mut self.conn, table, first, recs);
@@ -158,7 +158,7 @@ impl<S: Alter> SqlStable<S> {
     ) -> Result<Vec<(u64, Vec<u8>)>, StoreError>
         ensures never_present { result ≢ Err StoreError.Present }
         ensures tells { TellsRefusal self.new.last (result_err result) }
-        ensures fault { result_err result ≡ Some Fault → Rose self.old.failures self.new.failures }
+        ensures fault { CountsFault (result_err result) self.old.failures self.new.failures }
         ensures count { self.old.failures ≤ self.new.failures }
     {
         let found = further::all_in(&mut self.conn, alloc, table);
@@ -171,7 +171,7 @@ impl<S: Alter> SqlStable<S> {
         requires outputs { batch.now.outputs.first + length batch.now.outputs.recs.now ≤ LEDGER_NUMBERS }
         requires senders { batch.now.senders.first + length batch.now.senders.recs.now ≤ LEDGER_NUMBERS }
         ensures tells { TellsRefusal self.new.last (result_err result) }
-        ensures fault { result_err result ≡ Some Fault → Rose self.old.failures self.new.failures }
+        ensures fault { CountsFault (result_err result) self.old.failures self.new.failures }
         ensures count { self.old.failures ≤ self.new.failures }
     {
         let written = further::write_five(&mut self.conn, batch);
@@ -187,9 +187,9 @@ impl<S: Alter> SqlStable<S> {
             → IsErrOf result StoreError.Present → IsTaken (content_in (state S.Store self.old.connection).now).receipts first count }
         ensures same { IsTrue (is_sure (state S.Store self.new.connection)) → IsFormed (state S.Store self.old.connection)
             → Same (state S.Store self.old.connection) (state S.Store self.new.connection) }
-        ensures clean { IsTrue (is_sure (state S.Store self.new.connection)) → IsTrue (is_sure (state S.Store self.old.connection)) }
+        ensures clean { StaysSure (state S.Store self.old.connection) (state S.Store self.new.connection) }
         ensures tells { TellsRefusal self.new.last (result_err result) }
-        ensures fault { result_err result ≡ Some Fault → Rose self.old.failures self.new.failures }
+        ensures fault { CountsFault (result_err result) self.old.failures self.new.failures }
         ensures count { self.old.failures ≤ self.new.failures }
         ensures kept { result_err result ≢ Some Fault → self.new.failures ≡ self.old.failures }
     {
@@ -208,9 +208,9 @@ impl<S: Alter> SqlStable<S> {
             → IsErrOf result StoreError.Present → IsSome (map.get (content_in (state S.Store self.old.connection).now).checkpoints x) }
         ensures same { IsTrue (is_sure (state S.Store self.new.connection)) → IsFormed (state S.Store self.old.connection)
             → Same (state S.Store self.old.connection) (state S.Store self.new.connection) }
-        ensures clean { IsTrue (is_sure (state S.Store self.new.connection)) → IsTrue (is_sure (state S.Store self.old.connection)) }
+        ensures clean { StaysSure (state S.Store self.old.connection) (state S.Store self.new.connection) }
         ensures tells { TellsRefusal self.new.last (result_err result) }
-        ensures fault { result_err result ≡ Some Fault → Rose self.old.failures self.new.failures }
+        ensures fault { CountsFault (result_err result) self.old.failures self.new.failures }
         ensures count { self.old.failures ≤ self.new.failures }
         ensures kept { result_err result ≢ Some Fault → self.new.failures ≡ self.old.failures }
     {
@@ -229,9 +229,9 @@ impl<S: Alter> SqlStable<S> {
             → IsErrOf result StoreError.Present → IsHeld (content_in (state S.Store self.old.connection).now) checkpoint.entry }
         ensures same { IsTrue (is_sure (state S.Store self.new.connection)) → IsFormed (state S.Store self.old.connection)
             → Same (state S.Store self.old.connection) (state S.Store self.new.connection) }
-        ensures clean { IsTrue (is_sure (state S.Store self.new.connection)) → IsTrue (is_sure (state S.Store self.old.connection)) }
+        ensures clean { StaysSure (state S.Store self.old.connection) (state S.Store self.new.connection) }
         ensures tells { TellsRefusal self.new.last (result_err result) }
-        ensures fault { result_err result ≡ Some Fault → Rose self.old.failures self.new.failures }
+        ensures fault { CountsFault (result_err result) self.old.failures self.new.failures }
         ensures count { self.old.failures ≤ self.new.failures }
         ensures kept { result_err result ≢ Some Fault → self.new.failures ≡ self.old.failures }
     {
@@ -250,10 +250,10 @@ impl<S: Alter> SqlStable<S> {
             → OnErr result (content_in (state S.Store self.new.connection).now ≡ content_in (state S.Store self.old.connection).now) }
         ensures formed { IsTrue (is_sure (state S.Store self.new.connection)) → IsFormed (state S.Store self.old.connection)
             → IsFormed (state S.Store self.new.connection) }
-        ensures clean { IsTrue (is_sure (state S.Store self.new.connection)) → IsTrue (is_sure (state S.Store self.old.connection)) }
+        ensures clean { StaysSure (state S.Store self.old.connection) (state S.Store self.new.connection) }
         ensures never_present { result ≢ Err StoreError.Present }
         ensures tells { TellsRefusal self.new.last (result_err result) }
-        ensures fault { result_err result ≡ Some Fault → Rose self.old.failures self.new.failures }
+        ensures fault { CountsFault (result_err result) self.old.failures self.new.failures }
         ensures count { self.old.failures ≤ self.new.failures }
     {
         let done = writing::write(&mut self.conn, batch);
@@ -295,7 +295,7 @@ fn told<T>(
     ensures tells { TellsRefusal last.new (result_err result) }
     ensures never_present { result ≢ Err StoreError.Present }
     ensures memory { IsErrOf result StoreError.Memory ↔ (result_err outcome ≡ Some out_of_memory) }
-    ensures fault { result_err result ≡ Some Fault → Rose failures.old failures.new }
+    ensures fault { CountsFault (result_err result) failures.old failures.new }
     ensures count { failures.old ≤ failures.new }
     ensures kept { result_err result ≢ Some Fault → failures.new ≡ failures.old }
 {
@@ -333,7 +333,7 @@ fn put_told(
     ensures ok { is_ok result ≡ is_ok outcome }
     ensures tells { TellsRefusal last.new (result_err result) }
     ensures last { last.new ≡ result_err outcome }
-    ensures fault { result_err result ≡ Some Fault → Rose failures.old failures.new }
+    ensures fault { CountsFault (result_err result) failures.old failures.new }
     ensures count { failures.old ≤ failures.new }
 {
     if is_taken(&outcome) {

@@ -11,7 +11,7 @@ ghost use Rattle.om_timeline.specs.Deeds.{turns_at};
 ghost use Rattle.om_timeline.specs.Shown.{ShownAt};
 ghost use Rattle.om_timeline.specs.Timeline.{CanBegin, IsBegin, IsUpTo, at, machine_here, told_timeline, with_deeds};
 ghost use Rattle.om_timeline.specs.steps.Kept.{IsComing};
-ghost use Rattle.om_timeline.specs.steps.Placed.{IsLeft};
+ghost use Rattle.om_timeline.specs.steps.Placed.{IsLeft, StaysOf};
 
 use crate::alone::{Alone, copy_of};
 use crate::deed::{Deed, turns_at};
@@ -315,7 +315,7 @@ impl Timeline {
         ensures not_there { IfOk result (λ there. there ≡ false → self.new ≡ self.old) }
         ensures played { IfOk result (λ there. (there ≡ true)
             ↔ ((to.event ≤ length self.old.deeds) × (to.turns ≤ turns_at self.old.deeds to.event))) }
-        ensures stays { (event : ℕ) × (turns : ℕ) × (self.new ≡ at self.old event turns) }
+        ensures stays { StaysOf self.old self.new }
     {
         let deeds = self.tape.deeds();
         if to.event > deeds.len() {
@@ -334,7 +334,7 @@ impl Timeline {
         requires event { to.event ≤ length self.old.deeds }
         requires turns { to.turns ≤ turns_at self.old.deeds to.event }
         ensures there { OnOk result (self.new ≡ at self.old to.event to.turns) }
-        ensures stays { (event : ℕ) × (turns : ℕ) × (self.new ≡ at self.old event turns) }
+        ensures stays { StaysOf self.old self.new }
     {
         self.start_for(alloc, to)?;
         self.approach(alloc, to)?;
@@ -368,7 +368,7 @@ impl Timeline {
     /// out, and then it stands where it stood.
     #[tactic(auto, using(crate::proofs::Walking::begun_gone, crate::proofs::Walking::begun_order))]
     pub fn go_to_kept(&mut self, alloc: Global, to: Position) -> Result<(), AllocError>
-        ensures gone { OnOk result ((event : ℕ) × (turns : ℕ) × (self.new ≡ at self.old event turns)) }
+        ensures gone { OnOk result (StaysOf self.old self.new) }
         ensures order { OnOk result (IsUpTo self.new.event self.new.turns to.event to.turns) }
         ensures refused { OnErr result (self.new ≡ self.old) }
     {
@@ -391,7 +391,7 @@ impl Timeline {
         requires event { to.event ≤ length self.old.deeds }
         requires turns { to.turns ≤ turns_at self.old.deeds to.event }
         ensures coming { OnOk result (IsComing self.old self.new to.event to.turns) }
-        ensures stays { (event : ℕ) × (turns : ℕ) × (self.new ≡ at self.old event turns) }
+        ensures stays { StaysOf self.old self.new }
     {
         let near = before(self.tape.deeds(), to, NEAR);
         if is_up_to(near, self.at) {
@@ -409,7 +409,7 @@ impl Timeline {
         requires event { to.event ≤ length self.old.deeds }
         requires turns { to.turns ≤ turns_at self.old.deeds to.event }
         ensures there { OnOk result (self.new ≡ at self.old to.event to.turns) }
-        ensures stays { (event : ℕ) × (turns : ℕ) × (self.new ≡ at self.old event turns) }
+        ensures stays { StaysOf self.old self.new }
     {
         if to.event == self.at.event {
             self.step_many(to.turns - self.at.turns);
@@ -440,7 +440,7 @@ impl Timeline {
         requires order { self.old.event ≤ to }
         requires played { to ≤ length self.old.deeds }
         ensures there { OnOk result (self.new ≡ at self.old to 0) }
-        ensures stays { (event : ℕ) × (turns : ℕ) × (self.new ≡ at self.old event turns) }
+        ensures stays { StaysOf self.old self.new }
     {
         for event in self.at.event..to {
             // The proof counts by it.

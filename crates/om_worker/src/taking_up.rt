@@ -10,6 +10,7 @@ ghost use Rattle.om_node.specs.Stores.{AreNeverClean};
 ghost use Rattle.om_report.specs.Faults.{IsFaultBy};
 ghost use Rattle.om_node.specs.Nodes.{AreAlwaysClean};
 ghost use Rattle.om_worker.specs.steps.Refusals.{refusal_of_found};
+ghost use Rattle.om_links.specs.Links.{KeepsEnds};
 
 use crate::worker::Worker;
 use om_board::Naming;
@@ -81,7 +82,7 @@ fn wait_for<'a, K: Naming, R: Wait + Clock, G, O: StoreMaker<R>>(
     wanted: u64,
     turns: u64,
 ) -> Result<u64, RunFault>
-    ensures same { worker.new.links.ends ≡ worker.old.links.ends }
+    ensures same { KeepsEnds worker.old.links worker.new.links }
     ensures left { IfOk result (λ left. left ≤ turns) }
     ensures fault { IfErr result (IsFaultBy worker.old.links.ends.own) }
 {
@@ -105,7 +106,7 @@ fn opened<'a, K: Naming, R: Wait + Clock, G, O: StoreMaker<R>>(
     cluster: &Cluster<'a, K, R, G, O>,
     worker: &mut Worker<'a, K>,
 ) -> Result<O::Store, RunFault>
-    ensures same { worker.new.links.ends ≡ worker.old.links.ends }
+    ensures same { KeepsEnds worker.old.links worker.new.links }
     ensures fault { IfErr result (IsFaultBy worker.old.links.ends.own) }
 {
     let pid = worker.pid();
@@ -127,7 +128,7 @@ fn looked_at<'a, K: Naming, R: Wait + Clock, G, O: StoreMaker<R>>(
     store: &mut O::Store,
 ) -> Result<Found, RunFault>
     requires { K.cell.n ≤ MAX_PROCESSES }
-    ensures same { worker.new.links.ends ≡ worker.old.links.ends }
+    ensures same { KeepsEnds worker.old.links worker.new.links }
     ensures fault { IfErr result (IsFaultBy worker.old.links.ends.own) }
 {
     let (pid, n) = (worker.pid(), worker.n());
@@ -208,7 +209,7 @@ fn complete<'a, K: Naming, R: Wait + Clock, G, O: StoreMaker<R>>(
     turns: u64,
 ) -> Result<u64, RunFault>
     requires { K.cell.n ≤ MAX_PROCESSES }
-    ensures same { worker.new.links.ends ≡ worker.old.links.ends }
+    ensures same { KeepsEnds worker.old.links worker.new.links }
     ensures left { IfOk result (λ left. left ≤ turns) }
     ensures fault { IfErr result (IsFaultBy worker.old.links.ends.own) }
 {
@@ -233,7 +234,7 @@ fn take_in<'a, K: Naming, R: Wait + Clock, G, O: StoreMaker<R>>(
     requires few { K.cell.n ≤ MAX_PROCESSES }
     requires unsure { AreNeverClean O.Store.is_clean }
     requires clean { K.OverClean → AreAlwaysClean O.Store.is_clean }
-    ensures same { worker.new.links.ends ≡ worker.old.links.ends }
+    ensures same { KeepsEnds worker.old.links worker.new.links }
     ensures left { IfOk result (λ left. left ≤ turns) }
     ensures fault { IfErr result (IsFaultBy worker.old.links.ends.own) }
 {
@@ -262,7 +263,7 @@ fn taken_in<'a, K: Naming, R: Wait + Clock, G, O: StoreMaker<R>>(
     requires few { K.cell.n ≤ MAX_PROCESSES }
     requires unsure { AreNeverClean O.Store.is_clean }
     requires clean { K.OverClean → AreAlwaysClean O.Store.is_clean }
-    ensures same { worker.new.links.ends ≡ worker.old.links.ends }
+    ensures same { KeepsEnds worker.old.links worker.new.links }
     ensures left { IfOk result (λ made. made.1 ≤ cluster.now.config.now.turns) }
     ensures fault { IfErr result (IsFaultBy worker.old.links.ends.own) }
 {
@@ -290,7 +291,7 @@ pub(crate) fn take_up<'a, K: Naming, J: Series, R: Wait + Clock, G, O: StoreMake
     requires few { K.cell.n ≤ MAX_PROCESSES }
     requires unsure { AreNeverClean O.Store.is_clean }
     requires clean { K.OverClean → AreAlwaysClean O.Store.is_clean }
-    ensures same { worker.new.links.ends ≡ worker.old.links.ends }
+    ensures same { KeepsEnds worker.old.links worker.new.links }
     ensures member { IfOk result (λ made. made.0 ≡ record { program = program_of image.entry.now; own = worker.old.links.ends.own; n = K.cell.n }) }
     ensures left { IfOk result (λ made. made.1 ≤ cluster.now.config.now.turns) }
     ensures fault { IfErr result (IsFaultBy worker.old.links.ends.own) }

@@ -7,6 +7,7 @@ ghost use Rattle.om_cluster.specs.Ends.{IsEndOf};
 ghost use Rattle.om_report.specs.Faults.{IsFaultBy};
 ghost use Rattle.om_worker.specs.steps.Turning.{IsTurned};
 ghost use Rattle.om_worker_parts.specs.Places.{IsProcessOf, IsLanded, member_of};
+ghost use Rattle.om_links.specs.Links.{KeepsEnds};
 
 use crate::worker::Worker;
 use om_board::{Naming, Pass};
@@ -44,7 +45,7 @@ fn leave<'a, K: Naming, J: Series, S: Stable, R: Wait>(
     requires own { node.member.own ≡ worker.old.links.ends.own }
     requires size { node.member.n ≡ K.cell.n }
     requires landed { node.away ≡ false }
-    ensures same { worker.new.links.ends ≡ worker.old.links.ends }
+    ensures same { KeepsEnds worker.old.links worker.new.links }
     ensures turned { IfOk result (λ t. IsTurned S.is_clean node.entry.member t) }
     ensures fault { IfErr result (IsFaultBy worker.old.links.ends.own) }
 {
@@ -75,7 +76,7 @@ fn take_turn<'a, K: Naming, J: Series, S: Ledger, R: Wait + Clock>(
 ) -> Result<AfterTurn<'a, K, J, S>, RunFault>
     requires process { IsProcessOf S.is_clean K.OverClean K.programs K.cell.n worker.old.links.ends.own (member_of state) }
     requires landed { IsLanded state }
-    ensures same { worker.new.links.ends ≡ worker.old.links.ends }
+    ensures same { KeepsEnds worker.old.links worker.new.links }
     ensures turned { IfOk result (λ t. IsTurned S.is_clean (member_of state.entry) t) }
     ensures fault { IfErr result (IsFaultBy worker.old.links.ends.own) }
 {
@@ -102,7 +103,7 @@ fn turns_until_over<'a, K: Naming, J: Series, S: Ledger, R: Wait + Clock>(
 ) -> Result<(Status, Harvest<K>, S), RunFault>
     requires process { IsProcessOf S.is_clean K.OverClean K.programs K.cell.n worker.old.links.ends.own (member_of state) }
     requires landed { IsLanded state }
-    ensures same { worker.new.links.ends ≡ worker.old.links.ends }
+    ensures same { KeepsEnds worker.old.links worker.new.links }
     ensures ended { IfOk result (λ end. IsEnd end.0) }
     ensures own { let m = member_of state.entry in IfOk result (λ end. end.1.own ≡ m.own) }
     ensures whole { let m = member_of state.entry in IfOk result (λ end. IsTrue (S.is_clean end.2)

@@ -9,6 +9,7 @@ ghost use Rattle.om_report.specs.Locks.{UnderLock};
 ghost use Rattle.om_worker_parts.specs.Places.{IsProcessOf, IsLanded, member_of, IsLandedAt};
 ghost use Rattle.om_worker.specs.steps.Turning.{HasNothingToSay, HasReported, HasRun, IsOffered, IsTurnOf};
 ghost use Rattle.om_links.specs.Wiring.{HasEnds};
+ghost use Rattle.om_links.specs.Links.{KeepsEnds};
 
 mod resting;
 mod rounds;
@@ -130,7 +131,7 @@ impl<'a, K: Naming> Worker<'a, K> {
         found: Found,
     ) -> Result<(), WorkerFault>
         requires { K.OverClean → ⊥ }
-        ensures same { self.new.links.ends ≡ self.old.links.ends }
+        ensures same { KeepsEnds self.old.links self.new.links }
         ensures past { OnOk result (self.new.past ≡ record { keeps = true; senders = found.senders.items; count = 0 }) }
         ensures kept { OnOk result (self.new.storing.kept ≡ Some (record { outputs = length found.outputs.items; senders = found.kept })) }
     {
@@ -154,7 +155,7 @@ impl<'a, K: Naming> Worker<'a, K> {
 
     // Has the next turn count as no more than so many.
     pub(crate) fn allow(&mut self, left: u64)
-        ensures { self.new.links.ends ≡ self.old.links.ends }
+        ensures { KeepsEnds self.old.links self.new.links }
     {
         self.left = left;
     }
@@ -162,7 +163,7 @@ impl<'a, K: Naming> Worker<'a, K> {
     // Counts the process, which came up in this round, and wakes the others where it was the last. It is the last act of coming up,
     // but where a store is taken up: there the manager is told of it afterwards.
     pub(crate) fn arrive(&mut self, round: u32)
-        ensures { self.new.links.ends ≡ self.old.links.ends }
+        ensures { KeepsEnds self.old.links self.new.links }
     {
         if self.barrier.arrive(round) {
             self.links.wake_all();
@@ -172,7 +173,7 @@ impl<'a, K: Naming> Worker<'a, K> {
     // Returns whether the process, which is up, waits for others to come up. A turn in which it does is one in which nothing
     // happens.
     fn waits_for_others<R: Wait + Clock>(&mut self, rt: &R) -> bool
-        ensures { self.new.links.ends ≡ self.old.links.ends }
+        ensures { KeepsEnds self.old.links self.new.links }
     {
         if self.barrier.is_passed() {
             return false;
@@ -210,7 +211,7 @@ impl<'a, K: Naming> Worker<'a, K> {
 
     // Notes that the process has ended, with so many instructions.
     pub(crate) fn end(&mut self, count: u64)
-        ensures { self.new.links.ends ≡ self.old.links.ends }
+        ensures { KeepsEnds self.old.links self.new.links }
     {
         self.past.end(count);
     }
@@ -227,7 +228,7 @@ impl<'a, K: Naming> Worker<'a, K> {
     ) -> Result<(WorkerState<'a, J, S>, Pass<K>), WorkerFault>
         requires process { IsProcessOf S.is_clean K.OverClean K.programs K.cell.n self.old.links.ends.own (member_of state) }
         requires landed { IsLanded state }
-        ensures same { self.new.links.ends ≡ self.old.links.ends }
+        ensures same { KeepsEnds self.old.links self.new.links }
         ensures place { IfOk result (λ r. member_of r.0 ≡ member_of state.entry) }
         ensures landed { IfOk result (λ r. IsLanded r.0) }
         ensures turned { IfOk result (λ r. IsTurnOf K.cell.n self.old.manager_link.round state.entry r.0) }
@@ -254,7 +255,7 @@ impl<'a, K: Naming> Worker<'a, K> {
     ) -> Result<(WorkerState<'a, J, S>, Pass<K>), WorkerFault>
         requires process { IsProcessOf S.is_clean K.OverClean K.programs K.cell.n self.old.links.ends.own (member_of state) }
         requires landed { IsLanded state }
-        ensures same { self.new.links.ends ≡ self.old.links.ends }
+        ensures same { KeepsEnds self.old.links self.new.links }
         ensures place { IfOk result (λ r. member_of r.0 ≡ member_of state.entry) }
         ensures landed { IfOk result (λ r. IsLanded r.0) }
     {
@@ -301,7 +302,7 @@ impl<'a, K: Naming> Worker<'a, K> {
         pass: Pass<K>,
     ) -> Result<(WorkerState<'a, J, S>, Pass<K>), WorkerFault>
         requires { IsProcessOf S.is_clean K.OverClean K.programs K.cell.n self.old.links.ends.own node.member }
-        ensures same { self.new.links.ends ≡ self.old.links.ends }
+        ensures same { KeepsEnds self.old.links self.new.links }
         ensures place { IfOk result (λ r. member_of r.0 ≡ node.entry.member) }
         ensures landed { IfOk result (λ r. IsLanded r.0) }
     {
@@ -332,7 +333,7 @@ impl<'a, K: Naming> Worker<'a, K> {
         node: &mut Node<'a, J, S>,
     ) -> Result<TurnOutcome, WorkerFault>
         requires { IsProcessOf S.is_clean K.OverClean K.programs K.cell.n self.old.links.ends.own node.old.member }
-        ensures same { self.new.links.ends ≡ self.old.links.ends }
+        ensures same { KeepsEnds self.old.links self.new.links }
         ensures member { node.new.member ≡ node.old.member }
         ensures landed { IfOk result (λ turn_outcome. IsLandedAt turn_outcome node.new) }
     {
@@ -364,7 +365,7 @@ impl<'a, K: Naming> Worker<'a, K> {
         node: &mut Node<'a, J, S>,
     ) -> Result<TurnOutcome, WorkerFault>
         requires { IsProcessOf S.is_clean K.OverClean K.programs K.cell.n self.old.links.ends.own node.old.member }
-        ensures same { self.new.links.ends ≡ self.old.links.ends }
+        ensures same { KeepsEnds self.old.links self.new.links }
         ensures member { node.new.member ≡ node.old.member }
         ensures landed { IfOk result (λ turn_outcome. IsLandedAt turn_outcome node.new) }
     {
@@ -387,7 +388,7 @@ impl<'a, K: Naming> Worker<'a, K> {
         node: &mut Node<'a, J, S>,
     ) -> Result<TurnOutcome, WorkerFault>
         requires { IsProcessOf S.is_clean K.OverClean K.programs K.cell.n self.old.links.ends.own node.old.member }
-        ensures same { self.new.links.ends ≡ self.old.links.ends }
+        ensures same { KeepsEnds self.old.links self.new.links }
         ensures member { node.new.member ≡ node.old.member }
     {
         let status = self.run(rt, alloc, node)?;
@@ -419,7 +420,7 @@ impl<'a, K: Naming> Worker<'a, K> {
     ) -> Result<Status, WorkerFault>
         requires own { node.old.member.own ≡ self.old.links.ends.own }
         requires size { node.old.member.n ≡ K.cell.n }
-        ensures same { self.new.links.ends ≡ self.old.links.ends }
+        ensures same { KeepsEnds self.old.links self.new.links }
         ensures member { node.new.member ≡ node.old.member }
         ensures ran { IfOk result (λ status. HasRun node.old.core self.old.config.now.fuel status node.new.core.now) }
         ensures stored { IfOk result (λ status. IsEnd status → node.new.core.log ≡ []) }
@@ -449,7 +450,7 @@ impl<'a, K: Naming> Worker<'a, K> {
     ) -> Result<(), WorkerFault>
         requires own { node.now.member.own ≡ self.old.links.ends.own }
         requires size { node.now.member.n ≡ K.cell.n }
-        ensures same { self.new.links.ends ≡ self.old.links.ends }
+        ensures same { KeepsEnds self.old.links self.new.links }
     {
         if went_on {
             self.change();
@@ -468,7 +469,7 @@ impl<'a, K: Naming> Worker<'a, K> {
         alloc: Global,
         node: &mut Node<'a, J, S>,
     ) -> Result<(), WorkerFault>
-        ensures same { self.new.links.ends ≡ self.old.links.ends }
+        ensures same { KeepsEnds self.old.links self.new.links }
         ensures member { node.new.member ≡ node.old.member }
         ensures now { OnOk result (node.new.core.now ≡ node.old.core.now) }
         ensures log { OnOk result (node.new.core.log ≡ []) }
@@ -490,7 +491,7 @@ impl<'a, K: Naming> Worker<'a, K> {
         called: bool,
     ) -> Result<ManagerPhase, WorkerFault>
         requires { IsProcessOf S.is_clean K.OverClean K.programs K.cell.n self.old.links.ends.own node.old.member }
-        ensures same { self.new.links.ends ≡ self.old.links.ends }
+        ensures same { KeepsEnds self.old.links self.new.links }
         ensures member { node.new.member ≡ node.old.member }
         ensures reported { IfOk result (λ phase. HasNothingToSay self.old.manager_link.handed status node.old.core phase node.new.core
             ⊎ HasReported K.cell.n self.old.manager_link.pid self.old.manager_link.round status node.old.core phase) }
@@ -516,7 +517,7 @@ impl<'a, K: Naming> Worker<'a, K> {
         status: Status,
     ) -> Result<ManagerPhase, WorkerFault>
         requires { IsProcessOf S.is_clean K.OverClean K.programs K.cell.n self.old.links.ends.own node.old.member }
-        ensures same { self.new.links.ends ≡ self.old.links.ends }
+        ensures same { KeepsEnds self.old.links self.new.links }
         ensures member { node.new.member ≡ node.old.member }
         ensures reported { IfOk result
             (HasReported K.cell.n self.old.manager_link.pid self.old.manager_link.round status node.old.core) }
@@ -536,7 +537,7 @@ impl<'a, K: Naming> Worker<'a, K> {
     // Tells all senders once the process takes no message any more, whatever fails: it has ended, and its interval is in the recovery
     // state of its round, so that no round takes its end back.
     fn tell_end<R: Wait>(&mut self, rt: &R, core: &ProcCore, pass: &mut Pass<K>)
-        ensures { self.new.links.ends ≡ self.old.links.ends }
+        ensures { KeepsEnds self.old.links self.new.links }
     {
         if !self.has_ended || self.is_over {
             return;
@@ -561,7 +562,7 @@ impl<'a, K: Naming> Worker<'a, K> {
         node: &mut Node<'a, J, S>,
         status: Status,
     ) -> Result<TurnOutcome, WorkerFault>
-        ensures same { self.new.links.ends ≡ self.old.links.ends }
+        ensures same { KeepsEnds self.old.links self.new.links }
         ensures member { node.new.member ≡ node.old.member }
         ensures offered { OnOk result ((node.new.core ≡ node.old.core)
             ⊎ ((message : Message) × IsOffered node.old.core message node.new.core.now)) }
@@ -582,7 +583,7 @@ impl<'a, K: Naming> Worker<'a, K> {
 
     // Takes a message, or rests; what ends the rest is taken at once.
     fn take<R: Wait + Clock>(&mut self, rt: &R) -> Option<Taken>
-        ensures same { self.new.links.ends ≡ self.old.links.ends }
+        ensures same { KeepsEnds self.old.links self.new.links }
     {
         let taken = self.links.take(rt);
         if taken.is_some() {
@@ -596,7 +597,7 @@ impl<'a, K: Naming> Worker<'a, K> {
 
     // Notes that something happens to the process: it is idle no longer, and what it keeps is not all resent.
     fn change(&mut self)
-        ensures same { self.new.links.ends ≡ self.old.links.ends }
+        ensures same { KeepsEnds self.old.links self.new.links }
     {
         self.idle.end();
         self.resent = false;
@@ -610,7 +611,7 @@ impl<'a, K: Naming> Worker<'a, K> {
         node: &mut Node<'a, J, S>,
         taken: &Taken,
     ) -> Result<TurnOutcome, WorkerFault>
-        ensures same { self.new.links.ends ≡ self.old.links.ends }
+        ensures same { KeepsEnds self.old.links self.new.links }
         ensures member { node.new.member ≡ node.old.member }
         ensures offered { OnOk result (IsOffered node.old.core taken.now node.new.core.now) }
     {

@@ -7,6 +7,7 @@ ghost use Rattle.om_node.specs.Stores.{AreNeverClean};
 ghost use Rattle.om_cluster.specs.Ends.{IsEndOf, IsOwnEnd};
 ghost use Rattle.om_report.specs.Faults.{IsFaultBy};
 ghost use Rattle.om_node.specs.Nodes.{AreAlwaysClean};
+ghost use Rattle.om_worker.specs.steps.Turning.{EndsOf};
 
 use crate::taking_up::take_up;
 use crate::turns::take_turns;
@@ -50,8 +51,7 @@ fn work_anew<'a, K: Naming, J: Series, R: Wait + Clock, G: Gate, O: StoreMaker<R
 ) -> Result<Finished<K, O::Store>, RunFault>
     requires program { slice_get K.programs job.links.ends.own ≡ Some (program_of image.now) }
     requires clean { K.OverClean → AreAlwaysClean O.Store.is_clean }
-    ensures end { let l = job.entry.links.ends in
-        IfOk result (λ f. IsEndOf O.Store.is_clean (program_of image.entry.now) l.lines l.own l.n f) }
+    ensures end { EndsOf O.Store.is_clean (program_of image.entry.now) job.entry.links.ends result }
     ensures own { IsOwnEnd cluster.now.config.now job.entry.links.ends.own result }
 {
     let Job {
@@ -94,8 +94,7 @@ fn work_on<'a, K: Naming, J: Series, R: Wait + Clock, G: Gate, O: StoreMaker<R>>
     requires unsure { AreNeverClean O.Store.is_clean }
     requires program { slice_get K.programs job.links.ends.own ≡ Some (program_of image.now) }
     requires clean { K.OverClean → AreAlwaysClean O.Store.is_clean }
-    ensures end { let l = job.entry.links.ends in
-        IfOk result (λ f. IsEndOf O.Store.is_clean (program_of image.entry.now) l.lines l.own l.n f) }
+    ensures end { EndsOf O.Store.is_clean (program_of image.entry.now) job.entry.links.ends result }
     ensures own { IsOwnEnd cluster.now.config.now job.entry.links.ends.own result }
 {
     match admitted(cluster, job.links.own()) {
@@ -117,8 +116,7 @@ fn work_from<'a, K: Naming, J: Series, R: Wait + Clock, G: Gate, O: StoreMaker<R
     requires unsure { AreNeverClean O.Store.is_clean }
     requires program { slice_get K.programs job.links.ends.own ≡ Some (program_of image.now) }
     requires clean { K.OverClean → AreAlwaysClean O.Store.is_clean }
-    ensures end { let l = job.entry.links.ends in
-        IfOk result (λ f. IsEndOf O.Store.is_clean (program_of image.entry.now) l.lines l.own l.n f) }
+    ensures end { EndsOf O.Store.is_clean (program_of image.entry.now) job.entry.links.ends result }
     ensures given { OnOk result (1 ≤ cluster.now.config.now.turns) }
     ensures fault { IfErr result (IsFaultBy job.entry.links.ends.own) }
 {
@@ -166,8 +164,7 @@ fn work<'a, K: Naming, J: Series, R: Wait + Clock, G: Gate, O: StoreMaker<R>>(
 ) -> Result<Finished<K, O::Store>, RunFault>
     requires program { slice_get K.programs job.links.ends.own ≡ Some (program_of image.now) }
     requires clean { K.OverClean → AreAlwaysClean O.Store.is_clean }
-    ensures end { let l = job.entry.links.ends in
-        IfOk result (λ f. IsEndOf O.Store.is_clean (program_of image.entry.now) l.lines l.own l.n f) }
+    ensures end { EndsOf O.Store.is_clean (program_of image.entry.now) job.entry.links.ends result }
     ensures own { IsOwnEnd cluster.now.config.now job.entry.links.ends.own result }
 {
     if cluster.opener.takes_up() {

@@ -13,3 +13,4 @@ pub mod Gathering
 pub mod Returning
 pub mod NotRunning
 pub mod Codes
+pub mod Faultless

@@ -11,6 +11,7 @@ ghost use Rattle.om_world.specs.declared.event.Event.{Event};
 ghost use Rattle.om_world.specs.declared.event.Refusal.{Refusal};
 ghost use Rattle.om_world.specs.steps.Gathering.{HasEntered};
 ghost use Rattle.om_world.specs.steps.Moves.{Keeps, answered, refusal_of_join, told_of};
+ghost use Rattle.om_world.specs.steps.Faultless.{IsFaultlessOver};
 
 use crate::event::{Answer, Refusal};
 use crate::failing::cut_where_finished;
@@ -61,7 +62,7 @@ impl<S: Stable> World<S> {
         ensures happened { IsKnown self.new → Happened self.old (Event.Join p) (answered result) self.new }
         ensures keeps { Keeps self.old self.new }
         ensures counted { IsCounted self.old self.new (answered result) }
-        ensures faultless { ((store : S) → S.failed store ≡ 0) → IsFaultless (answered result) }
+        ensures faultless { IsFaultlessOver S.failed (answered result) }
     {
         self.is_up(p)?;
         self.is_gathering()?;

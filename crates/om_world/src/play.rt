@@ -9,6 +9,7 @@ ghost use Rattle.om_world.specs.Holds.{Holds};
 ghost use Rattle.om_world.specs.Played.{IsCounted, IsFaultless, Played, Step};
 ghost use Rattle.om_world.specs.World.{IsKnown, all_clean};
 ghost use Rattle.om_world.specs.steps.Moves.{Keeps, answered};
+ghost use Rattle.om_world.specs.steps.Faultless.{NeverFails};
 
 use crate::event::{Answer, Event, Refusal};
 use crate::world::World;
@@ -32,7 +33,7 @@ impl<S: Stable> World<S> {
         ensures happened { IsKnown self.new → Happened self.old event (answered result) self.new }
         ensures keeps { Keeps self.old self.new }
         ensures counted { IsCounted self.old self.new (answered result) }
-        ensures faultless { ((store : S) → S.failed store ≡ 0) → IsKnown self.new → IsFaultless (answered result) }
+        ensures faultless { NeverFails S.failed → IsKnown self.new → IsFaultless (answered result) }
     {
         match event {
             Event::Run { process, fuel } => self.run(alloc, process, fuel),
@@ -60,7 +61,7 @@ impl<S: Stable> World<S> {
         ensures step { IsKnown self.new → Step self.old event result self.new }
         ensures keeps { Keeps self.old self.new }
         ensures counted { IsCounted self.old self.new result }
-        ensures faultless { ((store : S) → S.failed store ≡ 0) → IsKnown self.new → IsFaultless result }
+        ensures faultless { NeverFails S.failed → IsKnown self.new → IsFaultless result }
     {
         let answer = answer_of(self.outcome(alloc, event));
         self.told();
@@ -80,7 +81,7 @@ impl<S: Stable> World<S> {
         ensures count { IfOk result (λ answers. length answers.items ≡ length events.now) }
         ensures counted { IfOk result (λ answers. All (IsCounted self.old self.new) answers.items) }
         ensures counts { NoneFell self.old.health self.new.health }
-        ensures faultless { ((store : S) → S.failed store ≡ 0) → IsKnown self.new
+        ensures faultless { NeverFails S.failed → IsKnown self.new
             → IfOk result (λ answers. All IsFaultless answers.items) }
         ensures holds { IsKnown self.new → Holds self.new }
         ensures released { KeepsReleased self.old.manager self.new.manager }

@@ -8,6 +8,7 @@ ghost use Rattle.om_world.specs.World.{IsKnown};
 ghost use Rattle.om_world.specs.declared.event.Event.{Event};
 ghost use Rattle.om_world.specs.steps.Moves.{Keeps, answered};
 ghost use Rattle.om_world.specs.steps.Pruning.{AllPruned, HasPruned, ManagerPruned};
+ghost use Rattle.om_world.specs.steps.Faultless.{IsFaultlessOver, NeverFails};
 
 use crate::event::{Answer, Refusal};
 use crate::world::World;
@@ -36,7 +37,7 @@ impl<S: Stable> World<S> {
     fn prune_store(&mut self, alloc: Global, p: usize) -> Result<(), StoreError>
         requires { p < length self.old.programs }
         ensures pruned { HasPruned self.old p result self.new }
-        ensures faultless { ((store : S) → S.failed store ≡ 0) → result ≢ Err StoreError.Fault }
+        ensures faultless { NeverFails S.failed → result ≢ Err StoreError.Fault }
     {
         let member = &mut self.members[p];
         member.prune(alloc, self.manager.effective(Pid::at(p)))
@@ -45,7 +46,7 @@ impl<S: Stable> World<S> {
     // Prunes the stores in order, up to the first that refuses.
     fn prune_stores(&mut self, alloc: Global) -> Result<(), StoreError>
         ensures pruned { AllPruned self.old result self.new }
-        ensures faultless { ((store : S) → S.failed store ≡ 0) → result ≢ Err StoreError.Fault }
+        ensures faultless { NeverFails S.failed → result ≢ Err StoreError.Fault }
     {
         for p in 0..self.size() {
             self.prune_store(alloc, p)?;
@@ -58,7 +59,7 @@ impl<S: Stable> World<S> {
         ensures happened { IsKnown self.new → Happened self.old Event.Prune (answered result) self.new }
         ensures keeps { Keeps self.old self.new }
         ensures counted { IsCounted self.old self.new (answered result) }
-        ensures faultless { ((store : S) → S.failed store ≡ 0) → IsFaultless (answered result) }
+        ensures faultless { IsFaultlessOver S.failed (answered result) }
     {
         self.prune_manager();
         self.prune_stores(alloc)?;

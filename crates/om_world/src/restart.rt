@@ -20,6 +20,7 @@ ghost use Rattle.om_world.specs.declared.event.Refusal.{Refusal};
 ghost use Rattle.om_world.specs.steps.Members.{downed};
 ghost use Rattle.om_world.specs.steps.Moves.{Keeps, answered};
 ghost use Rattle.om_world.specs.steps.Restarting.{HasRead, HasToldStores, IsAnew, IsRefusal, left_run, refusal_of_rows};
+ghost use Rattle.om_world.specs.steps.Faultless.{CountsFault, HasNoFaultOver, IsFaultlessOver, IsUndamaged, NeverFails};
 
 use crate::event::{Answer, Refusal};
 use crate::remembered::Remembered;
@@ -102,7 +103,7 @@ impl<S: Stable> World<S> {
         ensures read { HasRead self.old self.new }
         ensures rows { IsKnown self.new → IfOk result (λ rows. AreRowsOf p (length self.old.programs) (held_in self.old p) rows.items) }
         ensures counted { result ≡ Err RowsFault.Fault → HasFailed self.old p self.new }
-        ensures faultless { ((store : S) → S.failed store ≡ 0) → result ≢ Err RowsFault.Fault }
+        ensures faultless { NeverFails S.failed → result ≢ Err RowsFault.Fault }
         ensures stands { IsKnown self.new → (run : List Entry) → IsLeft self.old run → AreTrue self.old.programs run (held_in self.old) }
         ensures whole { IsKnown self.new → IsWhole self.old → IfErr result (λ fault. refusal_of_rows fault ≢ Refusal.Damaged) }
     {
@@ -118,9 +119,9 @@ impl<S: Stable> World<S> {
         ensures told { OnOk result (HasToldStores self.old manager.old (length self.old.programs) self.new manager.new) }
         ensures read { HasRead self.old self.new }
         ensures refused { IfErr result IsRefusal }
-        ensures counted { result ≡ Err Refusal.Fault → (p : _) × HasFailed self.old p self.new }
-        ensures faultless { ((store : S) → S.failed store ≡ 0) → result ≢ Err Refusal.Fault }
-        ensures whole { IsKnown self.new → IsWhole self.old → result ≢ Err Refusal.Damaged }
+        ensures counted { CountsFault self.old result self.new }
+        ensures faultless { HasNoFaultOver S.failed result }
+        ensures whole { IsUndamaged self.old result self.new }
     {
         for p in 0..self.size() {
             let rows = self.rows_at(alloc, p)?;
@@ -135,9 +136,9 @@ impl<S: Stable> World<S> {
         ensures made { IfOk result (λ manager. IsAnew self.new manager) }
         ensures read { HasRead self.old self.new }
         ensures refused { IfErr result IsRefusal }
-        ensures counted { result ≡ Err Refusal.Fault → (p : _) × HasFailed self.old p self.new }
-        ensures faultless { ((store : S) → S.failed store ≡ 0) → result ≢ Err Refusal.Fault }
-        ensures whole { IsKnown self.new → IsWhole self.old → result ≢ Err Refusal.Damaged }
+        ensures counted { CountsFault self.old result self.new }
+        ensures faultless { HasNoFaultOver S.failed result }
+        ensures whole { IsUndamaged self.old result self.new }
     {
         let count = self.manager.recovery().n();
         let mut manager = new_manager(alloc, count)?;
@@ -171,7 +172,7 @@ impl<S: Stable> World<S> {
         ensures happened { IsKnown self.new → Happened self.old Event.Restart (answered result) self.new }
         ensures keeps { Keeps self.old self.new }
         ensures counted { IsCounted self.old self.new (answered result) }
-        ensures faultless { ((store : S) → S.failed store ≡ 0) → IsFaultless (answered result) }
+        ensures faultless { IsFaultlessOver S.failed (answered result) }
     {
         let current = self.settled()?;
         let manager = self.manager_anew(alloc)?;

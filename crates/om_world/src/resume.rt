@@ -12,6 +12,7 @@ ghost use Rattle.om_world.specs.declared.process_state.ProcessState.TheVariants 
 ghost use Rattle.om_world.specs.steps.Moves.{Keeps, answered};
 ghost use Rattle.om_world.specs.steps.Returning.{HasLeft, IsBeyond, IsDue, Returns};
 ghost use Rattle.om_world.specs.Failures.{HasGoneOn};
+ghost use Rattle.om_world.specs.steps.Faultless.{IsFaultlessOver, NeverFails};
 
 use crate::event::{Answer, Refusal};
 use crate::process_state::ProcessState;
@@ -81,7 +82,7 @@ impl<S: Stable> World<S> {
         requires there { p < length self.old.programs }
         requires news { HasNews self.old p }
         ensures back { Returns self.old p result self.new }
-        ensures faultless { ((store : S) → S.failed store ≡ 0) → result ≢ Err ReplayFault.Fault }
+        ensures faultless { NeverFails S.failed → result ≢ Err ReplayFault.Fault }
     {
         let verdict = self.manager.verdict(Pid::at(p));
         let down = Down {
@@ -120,7 +121,7 @@ impl<S: Stable> World<S> {
         ensures happened { IsKnown self.new → Happened self.old (Event.Resume p) (answered result) self.new }
         ensures keeps { Keeps self.old self.new }
         ensures counted { IsCounted self.old self.new (answered result) }
-        ensures faultless { ((store : S) → S.failed store ≡ 0) → IsFaultless (answered result) }
+        ensures faultless { IsFaultlessOver S.failed (answered result) }
     {
         let back = self.comes_back(p)?;
         if !back {

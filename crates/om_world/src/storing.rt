@@ -11,6 +11,7 @@ ghost use Rattle.om_manager.specs.declared.answers.RecordError.{RecordError};
 ghost use Rattle.om_world.specs.declared.event.Event.{Event};
 ghost use Rattle.om_world.specs.declared.event.Refusal.{Refusal};
 ghost use Rattle.om_world.specs.steps.Moves.{HasCalled, HasTold, Keeps, TellsStored, answered, count_of, event_of, refusal_of_record, refusal_of_store, rows_of, told_of};
+ghost use Rattle.om_world.specs.steps.Faultless.{HasNoFaultOver, IsFaultlessOver};
 
 use crate::event::{Answer, Refusal};
 use crate::world::World;
@@ -56,7 +57,7 @@ impl<S: Stable> World<S> {
         ensures called { (answer : Result (Unit {0}) StoreError) × HasCalled kind self.old p answer self.new
             × (result ≡ told_of refusal_of_store (Ok answer)) }
         ensures stored { OnOk result (TellsStored self.new p) }
-        ensures faultless { ((store : S) → S.failed store ≡ 0) → result ≢ Err Refusal.Fault }
+        ensures faultless { HasNoFaultOver S.failed result }
     {
         let member = &mut self.members[p];
         let told = told_stored(member.store(alloc, kind));
@@ -83,7 +84,7 @@ impl<S: Stable> World<S> {
         ensures happened { IsKnown self.new → Happened self.old (event_of kind p) (answered result) self.new }
         ensures keeps { Keeps self.old self.new }
         ensures counted { IsCounted self.old self.new (answered result) }
-        ensures faultless { ((store : S) → S.failed store ≡ 0) → IsFaultless (answered result) }
+        ensures faultless { IsFaultlessOver S.failed (answered result) }
     {
         self.is_up(p)?;
         self.store(alloc, p, kind)?;
@@ -96,7 +97,7 @@ impl<S: Stable> World<S> {
         ensures happened { IsKnown self.new → Happened self.old (Event.Spell p) (answered result) self.new }
         ensures keeps { Keeps self.old self.new }
         ensures counted { IsCounted self.old self.new (answered result) }
-        ensures faultless { ((store : S) → S.failed store ≡ 0) → IsFaultless (answered result) }
+        ensures faultless { IsFaultlessOver S.failed (answered result) }
     {
         self.is_up(p)?;
         self.store(alloc, p, Batch::Checkpoint)?;

@@ -18,6 +18,7 @@ ghost use Rattle.om_world.specs.declared.event.Answer.TheVariants as answers;
 ghost use Rattle.om_world.specs.declared.event.Event.{Event};
 ghost use Rattle.om_world.specs.declared.event.Refusal.{Refusal};
 ghost use Rattle.om_world.specs.steps.Restarting.{HasRead, HasToldStores, IsAnew, IsRefusal, refusal_of_rows};
+ghost use Rattle.om_world.specs.steps.Faultless.{CountsFault, HasNoFaultOver, IsUndamaged, NeverFails};
 
 use crate::event::Refusal;
 use crate::remembered::Remembered;
@@ -48,7 +49,7 @@ impl<S: Stable> Stopped<S> {
         ensures read { HasRead self.old self.new }
         ensures rows { IsKnown self.new → IfOk result (λ rows. AreRowsOf p (length self.old.programs) (held_in self.old p) rows.items) }
         ensures counted { result ≡ Err RowsFault.Fault → HasFailed self.old p self.new }
-        ensures faultless { ((store : S) → S.failed store ≡ 0) → result ≢ Err RowsFault.Fault }
+        ensures faultless { NeverFails S.failed → result ≢ Err RowsFault.Fault }
         ensures stands { IsKnown self.new → (run : List Entry) → IsLeft self.old run → AreTrue self.old.programs run (held_in self.old) }
         ensures whole { IsKnown self.new → IsWhole self.old → IfErr result (λ fault. refusal_of_rows fault ≢ Refusal.Damaged) }
     {
@@ -64,9 +65,9 @@ impl<S: Stable> Stopped<S> {
         ensures told { OnOk result (HasToldStores self.old manager.old (length self.old.programs) self.new manager.new) }
         ensures read { HasRead self.old self.new }
         ensures refused { IfErr result IsRefusal }
-        ensures counted { result ≡ Err Refusal.Fault → (p : _) × HasFailed self.old p self.new }
-        ensures faultless { ((store : S) → S.failed store ≡ 0) → result ≢ Err Refusal.Fault }
-        ensures whole { IsKnown self.new → IsWhole self.old → result ≢ Err Refusal.Damaged }
+        ensures counted { CountsFault self.old result self.new }
+        ensures faultless { HasNoFaultOver S.failed result }
+        ensures whole { IsUndamaged self.old result self.new }
     {
         for p in 0..self.size() {
             let rows = self.rows_at(alloc, p)?;
@@ -105,9 +106,9 @@ impl<S: Stable> Stopped<S> {
         ensures made { IfOk result (λ manager. IsAnew self.new manager) }
         ensures read { HasRead self.old self.new }
         ensures refused { IfErr result IsRefusal }
-        ensures counted { result ≡ Err Refusal.Fault → (p : _) × HasFailed self.old p self.new }
-        ensures faultless { ((store : S) → S.failed store ≡ 0) → result ≢ Err Refusal.Fault }
-        ensures whole { IsKnown self.new → IsWhole self.old → result ≢ Err Refusal.Damaged }
+        ensures counted { CountsFault self.old result self.new }
+        ensures faultless { HasNoFaultOver S.failed result }
+        ensures whole { IsUndamaged self.old result self.new }
     {
         let n = self.size();
         let mut manager = new_manager(alloc, n)?;
@@ -180,7 +181,7 @@ impl<S: Stable> World<S> {
         ensures counts { IfOk result (λ w. NoneFell left.health w.health) }
         ensures always { IfOk result (λ w. ((store : S) → IsTrue (S.is_clean store)) → all_clean w.health ≡ true) }
         ensures refused { IfErr result (λ e. IsKnown e.left → Happened left Event.Restart (answers.Refused e.why) e.left) }
-        ensures faultless { ((store : S) → S.failed store ≡ 0) → IfErr result (λ e. e.why ≢ Refusal.Fault) }
+        ensures faultless { NeverFails S.failed → IfErr result (λ e. e.why ≢ Refusal.Fault) }
     {
         let mut left = left;
         match left.manager_anew(alloc) {

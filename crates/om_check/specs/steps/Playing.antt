@@ -78,3 +78,7 @@ IsGoingOn w n = (p : ℕ) × (p < n) × CanReceive w n p
 abbrev pub StandsIn : WorldState → End → ℕ → Type 0
 StandsIn w Whole n = (p : ℕ) → p < n → IsDone w p
 StandsIn w Stuck n = (p : ℕ) → p < n → IsDone w p ⊎ IsStarved w p
+
+-- where what each store holds is known, what was received stays
+abbrev pub KeepsKnownLive : WorldState → WorldState → Type 0
+KeepsKnownLive old new = IsKnown new → new.live ≡ old.live

@@ -72,3 +72,7 @@ pub record AreToldOf {F : Type 0} (Tells : F → F → List Told → Type 0) (st
 -- so it was, since any start
 abbrev pub HaveTold : {F : Type 0} → (F → F → List Told → Type 0) → List FollowedOutputs → F → List FollowedOutputs → F → Type 0
 HaveTold Tells old before new after = (start : _) (told : List Told) → Tells start before told → AreToldOf Tells start told old new after
+
+-- of each lane as much is copied as before
+abbrev pub KeepsCopied : List FollowedOutputs → List FollowedOutputs → Type 0
+KeepsCopied old new = map (λ lane. lane.copied) new ≡ map (λ lane. lane.copied) old

@@ -52,3 +52,7 @@ pub record IsLastUpTo (olds news : List Inferior) (first : ℕ) (its_stop : Stop
 -- those from a place on stand where they stood
 abbrev pub AreUntouched : List Inferior → List Inferior → ℕ → Type 0
 AreUntouched olds news upto = (k : ℕ) → (k < upto → ⊥) → slice_get news k ≡ slice_get olds k
+
+-- all stay as they were but the one at this place
+abbrev pub OthersStay : {A : Type 0} → ℕ → List A → List A → Type 0
+OthersStay place old new = (k : ℕ) → k ≢ place → slice_get new k ≡ slice_get old k

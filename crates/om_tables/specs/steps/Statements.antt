@@ -1,14 +1,17 @@
 -- What the code's own steps do to the tables. No public clause cites this.
-use Rattle.std.specs.Prelude.{◌≡◌, ◌⊎◌, ◌+◌, ◌≤◌, ℕ, IsTrue, List, [], ◌∷◌, Some, None, IsSome, Result, OnOk, OnErr}
+use Rattle.std.specs.Prelude.{◌≡◌, ◌⊎◌, ◌+◌, ◌≤◌, ℕ, IsTrue, List, [], ◌∷◌, Option, Some, None, IsSome, Result, OnOk, OnErr}
 use Rattle.std.specs.FinMap as finite
 use Rattle.om_tables.specs.declared.refusal.Refusal.{Refusal}
 use Rattle.sqlite.specs.Effect.{Database}
 use Rattle.sqlite.specs.Order.{Row, column}
 use Rattle.sqlite.specs.State.{State, HasCleanDisk, KeepsCommit}
+use Rattle.om_stable.specs.Count.{Rose}
+use Rattle.om_stable.specs.declared.error.StoreError.{StoreError}
+use Rattle.om_stable.specs.declared.error.StoreError.TheVariants.{Fault}
 use Rattle.om_stable.specs.Content.{Records, Content, IsFree, IsEffective}
 use Rattle.om_tables.specs.Tables.{no_schema, stored_row}
 use Rattle.om_tables.specs.steps.Halfway.{half_schema, shown}
-use Rattle.om_tables.specs.Store.{Holds, IsFormed, content_in, number_in, bytes_in}
+use Rattle.om_tables.specs.Store.{Holds, IsFormed, content_in, is_sure, number_in, bytes_in}
 
 -- the row as it is stored, by its two parts
 abbrev pub stored : ℕ → List ℕ → Row
@@ -100,3 +103,11 @@ abbrev pub ShowsEffective : Records → ℕ → List Row → Type 0
 ShowsEffective held x rows =
     ((rows ≡ []) × IsFree held 0 (x + 1))
     ⊎ ((e : ℕ × List ℕ) × (rows ≡ shown e ∷ []) × IsEffective held x e.0 × (finite.get held e.0 ≡ Some e.1))
+
+-- a fault is counted
+abbrev pub CountsFault : Option StoreError → ℕ → ℕ → Type 0
+CountsFault error old new = error ≡ Some Fault → Rose old new
+
+-- a connection that is sure was sure before
+abbrev pub StaysSure : State → State → Type 0
+StaysSure old new = IsTrue (is_sure new) → IsTrue (is_sure old)

@@ -18,3 +18,7 @@ pub record IsLeft (old new : TimelineState) (to : ℕ) : Type 0 where
   pub event : ℕ
   pub order : event ≤ to
   pub is : new ≡ at old event 0
+
+-- the timeline is the same, at some position
+abbrev pub StaysOf : TimelineState → TimelineState → Type 0
+StaysOf old new = (event : ℕ) × (turns : ℕ) × (new ≡ at old event turns)

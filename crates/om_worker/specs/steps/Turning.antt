@@ -1,5 +1,5 @@
 -- What a turn of a worker does.
-use Rattle.std.specs.Prelude.{◌≡◌, ℕ, Bool, IsTrue, Option, length, ◌≢◌, ◌↔◌, [], true, false, ◌⊎◌, ◌-◌, ◌+◌}
+use Rattle.std.specs.Prelude.{◌≡◌, ℕ, Bool, IsTrue, Option, length, ◌≢◌, ◌↔◌, [], true, false, ◌⊎◌, ◌-◌, ◌+◌, IfOk, Result}
 use Rattle.om_process.specs.declared.status.Status.{Status}
 use Rattle.om_node.specs.Ends.{IsWholeRun}
 use Rattle.om_process.specs.Core.{IsEnd, CoreState, settled, RunsTo}
@@ -14,7 +14,7 @@ use Rattle.om_worker_parts.specs.declared.manager_link.RoundOutcome.{RoundOutcom
 use Rattle.om_worker_parts.specs.declared.manager_link.ManagerPhase.{ManagerPhase}
 use Rattle.om_format.specs.declared.message.Message.{Message}
 use Rattle.om_process.specs.Accepts.{Answers, taken}
-use Rattle.om_process.specs.Process.{Process}
+use Rattle.om_process.specs.Process.{Process, Program}
 use Rattle.om_process.specs.declared.accept.Accept.{Accept}
 use Rattle.om_process.specs.declared.accept.Accept.TheVariants as accepts
 use Rattle.om_process.specs.Stores.{flushed}
@@ -28,6 +28,10 @@ use Rattle.om_pacing.specs.declared.idle.TheConstants.{IDLE_TURNS}
 use Rattle.om_worker.specs.declared.worker.TheConstants.{ALL_TURNS}
 use Rattle.om_worker_parts.specs.Acts.{HasDeclared, HasHeard, HasJoined, HasMet, HasWaited, HasWithdrawn}
 use Rattle.om_report.specs.Locks.{UnderLock}
+use Rattle.om_report.specs.declared.fault.RunFault.{RunFault}
+use Rattle.om_cluster.specs.declared.finished.Finished.{Finished}
+use Rattle.om_cluster.specs.Ends.{IsEndOf}
+use Rattle.om_links.specs.Links.{EndsState}
 
 -- a turn leaves the process the member that it is, with no flight under way where it does not run on, or it has ended so
 abbrev pub IsTurned : {K J S : Type 0} → (S → Bool) → Member → AfterTurn K J S → Type 0
@@ -108,3 +112,7 @@ abbrev pub HasRun : CoreState → ℕ → Status → Process → Type 0
 HasRun old fuel status new =
     ((old.pending ≢ []) × (status ≡ statuses.Ready) × (new ≡ old.now))
     ⊎ ((count : ℕ) × (core : CoreState) × RunsTo old fuel count status core × (new ≡ core.now))
+
+-- how a process ended where its worker ended well, by the ends of inboxes that it had
+abbrev pub EndsOf : {K S : Type 0} → (S → Bool) → Program → EndsState → Result (Finished K S) RunFault → Type 0
+EndsOf is_clean program l result = IfOk result (λ f. IsEndOf is_clean program l.lines l.own l.n f)

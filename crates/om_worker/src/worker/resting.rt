@@ -2,6 +2,7 @@
 
 ghost use Rattle.std.specs.Prelude.{◌≡◌, ◌<◌, ◌+◌, true};
 ghost use Rattle.om_worker.specs.steps.Turning.{HasRested, pause_turns};
+ghost use Rattle.om_links.specs.Links.{KeepsEnds};
 
 use super::{ALL_TURNS, Worker};
 use om_board::{Naming, SpinOutcome};
@@ -40,7 +41,7 @@ impl<'a, K: Naming> Worker<'a, K> {
     // Takes a turn in which nothing happens to a process that is up. Where all that it keeps was resent, and put, the board knows
     // while it sleeps that it waits.
     pub(super) fn rest<R: Wait + Clock>(&mut self, rt: &R) -> Pause
-        ensures same { self.new.links.ends ≡ self.old.links.ends }
+        ensures same { KeepsEnds self.old.links self.new.links }
     {
         if self.resent && !self.storing.is_away && self.links.has_put_all() {
             self.wait(rt)
@@ -54,7 +55,7 @@ impl<'a, K: Naming> Worker<'a, K> {
     // Sleeps, while the board knows that the process waits. Where all wait, nothing can happen any more: all turns that are left are
     // spent at once, and the run ends with `Turns`.
     fn wait<R: Wait + Clock>(&mut self, rt: &R) -> Pause
-        ensures same { self.new.links.ends ≡ self.old.links.ends }
+        ensures same { KeepsEnds self.old.links self.new.links }
         ensures waited { HasRested K.cell.n self.old.manager_link.pid self.old.manager_link.round self.old.idle.turns result self.new.extra }
     {
         if self
@@ -72,7 +73,7 @@ impl<'a, K: Naming> Worker<'a, K> {
 
     // Counts a pause of a process that is up.
     fn count<R: Wait>(&mut self, rt: &R, pause: Pause)
-        ensures same { self.new.links.ends ≡ self.old.links.ends }
+        ensures same { KeepsEnds self.old.links self.new.links }
         ensures counted { self.new.extra + 1 ≡ pause_turns self.old.idle.turns pause }
     {
         if self.pass(pause) {
@@ -84,7 +85,7 @@ impl<'a, K: Naming> Worker<'a, K> {
     // Counts a pause, and says whether all that is kept is put once more after it. Where there was no room for some of it, that is
     // put first: a resend would begin it anew each time.
     fn pass(&mut self, pause: Pause) -> bool
-        ensures same { self.new.links.ends ≡ self.old.links.ends }
+        ensures same { KeepsEnds self.old.links self.new.links }
         ensures counted { self.new.extra + 1 ≡ pause_turns self.old.idle.turns pause }
     {
         let passed = self.idle.count(pause);
@@ -98,7 +99,7 @@ impl<'a, K: Naming> Worker<'a, K> {
 
     // Takes a turn in which nothing happens to a process that is in, or down.
     pub(crate) fn doze<R: Wait + Clock>(&mut self, rt: &R)
-        ensures same { self.new.links.ends ≡ self.old.links.ends }
+        ensures same { KeepsEnds self.old.links self.new.links }
     {
         let pause = pause_of(rt, &self.links, &self.idle, &mut self.patience);
         self.pass(pause);

@@ -6,6 +6,7 @@ ghost use Rattle.om_worker.specs.steps.Turning.{HasHeeded, HasComeBack, HasRisen
 ghost use Rattle.om_worker_parts.specs.Acts.{HasJoined};
 ghost use Rattle.om_report.specs.Locks.{UnderLock};
 ghost use Rattle.om_worker_parts.specs.Places.{IsProcessOf, IsLanded, member_of};
+ghost use Rattle.om_links.specs.Links.{KeepsEnds};
 
 use super::Worker;
 use om_board::{Naming, Pass};
@@ -59,7 +60,7 @@ impl<'a, K: Naming> Worker<'a, K> {
     ) -> Result<(WorkerState<'a, J, S>, Pass<K>), WorkerFault>
         requires process { IsProcessOf S.is_clean K.OverClean K.programs K.cell.n self.old.links.ends.own node.member }
         requires landed { node.away ≡ false }
-        ensures same { self.new.links.ends ≡ self.old.links.ends }
+        ensures same { KeepsEnds self.old.links self.new.links }
         ensures place { IfOk result (λ r. member_of r.0 ≡ node.entry.member) }
         ensures landed { IfOk result (λ r. IsLanded r.0) }
         ensures turned { IfOk result (λ r. IsTurnOf K.cell.n self.old.manager_link.round (WorkerState.MustJoin node.entry) r.0) }
@@ -84,7 +85,7 @@ impl<'a, K: Naming> Worker<'a, K> {
     ) -> Result<Pass<K>, WorkerFault>
         requires process { IsProcessOf S.is_clean K.OverClean K.programs K.cell.n self.old.links.ends.own node.old.member }
         requires landed { node.old.away ≡ false }
-        ensures same { self.new.links.ends ≡ self.old.links.ends }
+        ensures same { KeepsEnds self.old.links self.new.links }
         ensures member { node.new.member ≡ node.old.member }
         ensures landed { node.new.away ≡ false }
         ensures joined { OnOk result (UnderLock K.cell.n (λ before after.
@@ -111,7 +112,7 @@ impl<'a, K: Naming> Worker<'a, K> {
         pass: Pass<K>,
     ) -> Result<(WorkerState<'a, J, S>, Pass<K>), WorkerFault>
         requires { down_node.own ≡ self.old.links.ends.own }
-        ensures same { self.new.links.ends ≡ self.old.links.ends }
+        ensures same { KeepsEnds self.old.links self.new.links }
         ensures place { IfOk result (λ r. member_of r.0 ≡ down_node.entry) }
         ensures landed { IfOk result (λ r. IsLanded r.0) }
         ensures turned { IfOk result (λ r. IsTurnOf K.cell.n self.old.manager_link.round (WorkerState.Failed down_node.entry) r.0) }
@@ -134,7 +135,7 @@ impl<'a, K: Naming> Worker<'a, K> {
         requires own { node.member.own ≡ self.old.links.ends.own }
         requires size { node.member.n ≡ K.cell.n }
         requires landed { node.away ≡ false }
-        ensures same { self.new.links.ends ≡ self.old.links.ends }
+        ensures same { KeepsEnds self.old.links self.new.links }
         ensures place { IfOk result (λ r. member_of r.0 ≡ node.entry.member) }
         ensures landed { IfOk result (λ r. IsLanded r.0) }
         ensures turned { IfOk result (λ r. IsTurnOf K.cell.n self.old.manager_link.round (WorkerState.Joined node.entry) r.0) }
@@ -166,7 +167,7 @@ impl<'a, K: Naming> Worker<'a, K> {
     ) -> Result<WorkerState<'a, J, S>, WorkerFault>
         requires starts { length round_outcome.now.starts ≡ node.member.n }
         requires landed { node.away ≡ false }
-        ensures same { self.new.links.ends ≡ self.old.links.ends }
+        ensures same { KeepsEnds self.old.links self.new.links }
         ensures risen { IfOk result (λ state. HasRisen round_outcome.now node.entry state) }
     {
         let is_back = round_outcome.verdict.back;
@@ -187,7 +188,7 @@ impl<'a, K: Naming> Worker<'a, K> {
         is_back: bool,
     ) -> Result<WorkerState<'a, J, S>, WorkerFault>
         requires { node.core.round ≡ verdict.now.round }
-        ensures same { self.new.links.ends ≡ self.old.links.ends }
+        ensures same { KeepsEnds self.old.links self.new.links }
         ensures place { IfOk result (λ state. state ≡ WorkerState.Up node.entry) }
     {
         self.links.tell_all_received(node.core());
@@ -217,7 +218,7 @@ impl<'a, K: Naming> Worker<'a, K> {
     ) -> Result<(WorkerState<'a, J, S>, Pass<K>), WorkerFault>
         requires own { down_node.own ≡ self.old.links.ends.own }
         requires size { down_node.n ≡ K.cell.n }
-        ensures same { self.new.links.ends ≡ self.old.links.ends }
+        ensures same { KeepsEnds self.old.links self.new.links }
         ensures place { IfOk result (λ r. member_of r.0 ≡ down_node.entry) }
         ensures landed { IfOk result (λ r. IsLanded r.0) }
         ensures turned { IfOk result (λ r. IsTurnOf K.cell.n self.old.manager_link.round (WorkerState.Down down_node.entry) r.0) }
@@ -248,7 +249,7 @@ impl<'a, K: Naming> Worker<'a, K> {
         round_outcome: &RoundOutcome,
     ) -> Result<WorkerState<'a, J, S>, WorkerFault>
         requires { length round_outcome.now.starts ≡ down_node.n }
-        ensures same { self.new.links.ends ≡ self.old.links.ends }
+        ensures same { KeepsEnds self.old.links self.new.links }
         ensures back { IfOk result (λ state. HasComeBack round_outcome.now down_node.entry state) }
     {
         self.past.cut(round_outcome.verdict.r);
@@ -264,7 +265,7 @@ impl<'a, K: Naming> Worker<'a, K> {
         alloc: Global,
         pass: Pass<K>,
     ) -> Result<(Option<RoundOutcome>, Pass<K>), WorkerFault>
-        ensures same { self.new.links.ends ≡ self.old.links.ends }
+        ensures same { KeepsEnds self.old.links self.new.links }
         ensures starts { IfOk result (λ r. IfSome r.0 (λ round_outcome. length round_outcome.starts ≡ K.cell.n)) }
         ensures heard { IfOk result (λ r. IfSome r.0 (λ round_outcome. WasTold K.cell.n self.old.manager_link.pid round_outcome)) }
     {

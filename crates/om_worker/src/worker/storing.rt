@@ -3,6 +3,7 @@
 ghost use Rattle.std.specs.Prelude.{◌≡◌, ◌↔◌, Contains, IfOk, IsTrue, Ok, OnOk, false, is_some};
 ghost use Rattle.om_storing.specs.Receipts.{HasStoredBy};
 ghost use Rattle.om_worker.specs.steps.Dropping.{HasDropped};
+ghost use Rattle.om_links.specs.Links.{KeepsEnds};
 
 use super::Worker;
 use om_board::Naming;
@@ -23,7 +24,7 @@ impl<'a, K: Naming> Worker<'a, K> {
         node: &mut Node<'a, J, S>,
         x: u32,
     ) -> Result<TurnOutcome, WorkerFault>
-        ensures same { self.new.links.ends ≡ self.old.links.ends }
+        ensures same { KeepsEnds self.old.links self.new.links }
         ensures member { node.new.member ≡ node.old.member }
         ensures now { node.new.core.now ≡ node.old.core.now }
         ensures killed { Contains self.old.kills.items x → result ≡ Ok TurnOutcome.Failed }
@@ -46,7 +47,7 @@ impl<'a, K: Naming> Worker<'a, K> {
 
     // Returns whether the process is to fail in this interval, which is then done with.
     fn is_to_fail(&mut self, x: u32) -> bool
-        ensures same { self.new.links.ends ≡ self.old.links.ends }
+        ensures same { KeepsEnds self.old.links self.new.links }
         ensures config { self.new.config ≡ self.old.config }
         ensures kept { self.new.storing.kept ≡ self.old.storing.kept }
         ensures named { IsTrue result ↔ Contains self.old.kills.items x }
