@@ -16,5 +16,4 @@ IsMade programs n p seq output = (program : Program) → slice_get programs p �
 
 -- each output that a manager holds is one that its process's program makes, with its place as its number
 abbrev pub HoldsMade : List Program → ℕ → ManagerState → Type 0
-HoldsMade programs n m = (p i : ℕ) (output : HeldOutput) → slice_get (held_by m p) i ≡ Some output
-    → IsMade programs n p i output
+HoldsMade programs n m = (p i : ℕ) (output : HeldOutput) → slice_get (held_by m p) i ≡ Some output → IsMade programs n p i output

@@ -4,7 +4,7 @@ ghost use Rattle.std.specs.Prelude.{◌≡◌, [], ◌∷◌, ◌++◌, true, fa
 ghost use mathlib.Core.List.{IsPrefix};
 ghost use Rattle.crossbeam_utils.specs.Register.{Forks, Merges, Turns};
 ghost use Rattle.crossbeam_utils.specs.Seq.{cell_view};
-ghost use Rattle.om_board.specs.steps.Posting.{IsLog, Kept, Loads, MayStore, Stores, opened, reader, shown_to, writer};
+ghost use Rattle.om_board.specs.steps.Posting.{IsLog, Kept, Loads, MayStore, Stores, opened, reader, shown_to, writer, IsOfCell};
 
 use atomic_table::{Join, Split};
 use crossbeam_utils::atomic::seq_cell::{Pass, RuledSeqCell};
@@ -106,18 +106,18 @@ fn read_as<M: Outcome<[u64; WORDS], View>, R: Wait>(
     rt: &R,
     ticket: &mut Ticket,
 ) -> [u64; WORDS]
-    requires own { ticket.old.table_id ≡ cell.now.table.shared.table_id }
+    requires own { IsOfCell cell.now.table.shared.table_id ticket.old.table_id }
     requires rule { Turns Kept ticket.old.id (cell_view ticket.old) (λ x. x) M.then }
-    ensures own { ticket.new.table_id ≡ ticket.old.table_id }
+    ensures own { IsOfCell ticket.old.table_id ticket.new.table_id }
     ensures rule { M.then (cell_view ticket.old) result result (cell_view ticket.new) }
 {
     cell.load_as::<M, R>(rt, ticket)
 }
 
 fn write_as<R: Wait>(cell: &Cell, rt: &R, ticket: &mut Ticket, words: [u64; WORDS])
-    requires own { ticket.old.table_id ≡ cell.now.table.shared.table_id }
+    requires own { IsOfCell cell.now.table.shared.table_id ticket.old.table_id }
     requires rule { Turns Kept ticket.old.id (cell_view ticket.old) (λ _. words) Stores }
-    ensures own { ticket.new.table_id ≡ ticket.old.table_id }
+    ensures own { IsOfCell ticket.old.table_id ticket.new.table_id }
     ensures view { cell_view ticket.new ≡ writer ((cell_view ticket.old).seen ++ words ∷ []) }
     ensures log { IsLog (cell_view ticket.new).seen }
 {
@@ -125,11 +125,11 @@ fn write_as<R: Wait>(cell: &Cell, rt: &R, ticket: &mut Ticket, words: [u64; WORD
 }
 
 fn split_as<M: Split<View>>(cell: &Cell, ticket: &mut Ticket) -> Ticket
-    requires own { ticket.old.table_id ≡ cell.now.table.shared.table_id }
+    requires own { IsOfCell cell.now.table.shared.table_id ticket.old.table_id }
     requires rule { Forks Kept ticket.old.id (cell_view ticket.old) (M.left (cell_view ticket.old)) (M.right (cell_view ticket.old)) }
-    ensures own { ticket.new.table_id ≡ ticket.old.table_id }
+    ensures own { IsOfCell ticket.old.table_id ticket.new.table_id }
     ensures left { cell_view ticket.new ≡ M.left (cell_view ticket.old) }
-    ensures right_own { result.table_id ≡ ticket.old.table_id }
+    ensures right_own { IsOfCell ticket.old.table_id result.table_id }
     ensures right { cell_view result ≡ M.right (cell_view ticket.old) }
     ensures fresh { result.me.1 ≡ [] }
 {
@@ -137,12 +137,12 @@ fn split_as<M: Split<View>>(cell: &Cell, ticket: &mut Ticket) -> Ticket
 }
 
 fn join_as(cell: &Cell, ticket: &mut Ticket, other: Ticket)
-    requires own { ticket.old.table_id ≡ cell.now.table.shared.table_id }
-    requires other_own { other.table_id ≡ ticket.old.table_id }
+    requires own { IsOfCell cell.now.table.shared.table_id ticket.old.table_id }
+    requires other_own { IsOfCell ticket.old.table_id other.table_id }
     requires fresh { other.me.1 ≡ [] }
     requires rule { Merges Kept ticket.old.id (cell_view ticket.old) other.id (cell_view other)
         (shown_to (cell_view ticket.old) (cell_view other)) (reader []) }
-    ensures own { ticket.new.table_id ≡ ticket.old.table_id }
+    ensures own { IsOfCell ticket.old.table_id ticket.new.table_id }
     ensures view { cell_view ticket.new ≡ shown_to (cell_view ticket.old) (cell_view other) }
 {
     cell.join_pass::<Shows>(ticket, other);
@@ -150,9 +150,9 @@ fn join_as(cell: &Cell, ticket: &mut Ticket, other: Ticket)
 
 // Reads the words, by a pass that reads.
 pub(crate) fn read_words<R: Wait>(cell: &Cell, rt: &R, ticket: &mut Ticket) -> [u64; WORDS]
-    requires own { ticket.old.table_id ≡ cell.now.table.shared.table_id }
+    requires own { IsOfCell cell.now.table.shared.table_id ticket.old.table_id }
     requires reads { (cell_view ticket.old).writes ≡ false }
-    ensures own { ticket.new.table_id ≡ ticket.old.table_id }
+    ensures own { IsOfCell ticket.old.table_id ticket.new.table_id }
     ensures loads { Loads (cell_view ticket.old) result result (cell_view ticket.new) }
 {
     read_as::<Load, R>(cell, rt, ticket)
@@ -160,9 +160,9 @@ pub(crate) fn read_words<R: Wait>(cell: &Cell, rt: &R, ticket: &mut Ticket) -> [
 
 // Writes words, by the pass that writes.
 pub(crate) fn write_words<R: Wait>(cell: &Cell, rt: &R, ticket: &mut Ticket, words: [u64; WORDS])
-    requires own { ticket.old.table_id ≡ cell.now.table.shared.table_id }
+    requires own { IsOfCell cell.now.table.shared.table_id ticket.old.table_id }
     requires may { MayStore (cell_view ticket.old) words }
-    ensures own { ticket.new.table_id ≡ ticket.old.table_id }
+    ensures own { IsOfCell ticket.old.table_id ticket.new.table_id }
     ensures view { cell_view ticket.new ≡ writer ((cell_view ticket.old).seen ++ words ∷ []) }
     ensures log { IsLog (cell_view ticket.new).seen }
 {
@@ -171,11 +171,11 @@ pub(crate) fn write_words<R: Wait>(cell: &Cell, rt: &R, ticket: &mut Ticket, wor
 
 // Copies a pass that reads.
 pub(crate) fn copy_of(cell: &Cell, ticket: &mut Ticket) -> Ticket
-    requires own { ticket.old.table_id ≡ cell.now.table.shared.table_id }
+    requires own { IsOfCell cell.now.table.shared.table_id ticket.old.table_id }
     requires reads { (cell_view ticket.old).writes ≡ false }
-    ensures own { ticket.new.table_id ≡ ticket.old.table_id }
+    ensures own { IsOfCell ticket.old.table_id ticket.new.table_id }
     ensures same { cell_view ticket.new ≡ cell_view ticket.old }
-    ensures copy_own { result.table_id ≡ ticket.old.table_id }
+    ensures copy_own { IsOfCell ticket.old.table_id result.table_id }
     ensures copy { cell_view result ≡ cell_view ticket.old }
     ensures fresh { result.me.1 ≡ [] }
 {
@@ -184,10 +184,10 @@ pub(crate) fn copy_of(cell: &Cell, ticket: &mut Ticket) -> Ticket
 
 // Shows the writer the pass of a reader.
 pub(crate) fn show(cell: &Cell, ticket: &mut Ticket, other: Ticket)
-    requires own { ticket.old.table_id ≡ cell.now.table.shared.table_id }
-    requires other_own { other.table_id ≡ ticket.old.table_id }
+    requires own { IsOfCell cell.now.table.shared.table_id ticket.old.table_id }
+    requires other_own { IsOfCell ticket.old.table_id other.table_id }
     requires fresh { other.me.1 ≡ [] }
-    ensures own { ticket.new.table_id ≡ ticket.old.table_id }
+    ensures own { IsOfCell ticket.old.table_id ticket.new.table_id }
     ensures view { cell_view ticket.new ≡ shown_to (cell_view ticket.old) (cell_view other) }
 {
     join_as(cell, ticket, other);
@@ -195,9 +195,9 @@ pub(crate) fn show(cell: &Cell, ticket: &mut Ticket, other: Ticket)
 
 // Compares what the writer was shown with what it wrote.
 pub(crate) fn compare<R: Wait>(cell: &Cell, rt: &R, ticket: &mut Ticket)
-    requires own { ticket.old.table_id ≡ cell.now.table.shared.table_id }
+    requires own { IsOfCell cell.now.table.shared.table_id ticket.old.table_id }
     requires writes { (cell_view ticket.old).writes ≡ true }
-    ensures own { ticket.new.table_id ≡ ticket.old.table_id }
+    ensures own { IsOfCell ticket.old.table_id ticket.new.table_id }
     ensures view { cell_view ticket.new ≡ writer (cell_view ticket.old).seen }
     ensures behind { IsPrefix (cell_view ticket.old).shown (cell_view ticket.old).seen }
 {
@@ -206,10 +206,10 @@ pub(crate) fn compare<R: Wait>(cell: &Cell, rt: &R, ticket: &mut Ticket)
 
 // Makes a pass that reads, from the writer's.
 pub(crate) fn reader_of(cell: &Cell, ticket: &mut Ticket) -> Ticket
-    requires own { ticket.old.table_id ≡ cell.now.table.shared.table_id }
-    ensures own { ticket.new.table_id ≡ ticket.old.table_id }
+    requires own { IsOfCell cell.now.table.shared.table_id ticket.old.table_id }
+    ensures own { IsOfCell ticket.old.table_id ticket.new.table_id }
     ensures same { cell_view ticket.new ≡ cell_view ticket.old }
-    ensures reader_own { result.table_id ≡ ticket.old.table_id }
+    ensures reader_own { IsOfCell ticket.old.table_id result.table_id }
     ensures reader { cell_view result ≡ opened (cell_view ticket.old) }
 {
     split_as::<Opens>(cell, ticket)

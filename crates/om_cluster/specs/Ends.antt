@@ -1,5 +1,5 @@
 -- What a worker brings back.
-use Rattle.std.specs.Prelude.{◌≡◌, ℕ, ◌≤◌, Bool, IfErr, IfOk, IsTrue, Result, length}
+use Rattle.std.specs.Prelude.{◌≡◌, ℕ, ◌≤◌, Bool, IfErr, IfOk, IsTrue, Result, length, List, Some, slice_get}
 use Rattle.om_process.specs.Process.{Program}
 use Rattle.om_node.specs.Ends.{IsWholeRun}
 use Rattle.om_process.specs.Core.{IsEnd}
@@ -9,6 +9,9 @@ use Rattle.om_cluster.specs.declared.finished.Finished.{Finished}
 use Rattle.om_links.specs.Network.{Lines}
 use Rattle.om_links.specs.Wiring.{HasEnds}
 use Rattle.om_report.specs.Faults.{IsFaultBy}
+use Rattle.om_interval.specs.declared.pid.TheConstants.{MAX_PROCESSES}
+use Rattle.om_process.specs.Images.{program_of}
+use Rattle.om_process.specs.declared.image.Image.{Image}
 
 -- how a process ended, with its outputs, its store and its passes: over a clean store the outputs are all that it had made
 pub record IsEndOf {K S : Type 0} (is_clean : S → Bool) (program : Program) (lines : Lines) (own n : ℕ) (f : Finished K S) : Type 0 where
@@ -16,6 +19,14 @@ pub record IsEndOf {K S : Type 0} (is_clean : S → Bool) (program : Program) (l
   pub own_is : f.harvest.own ≡ own
   pub whole : IsTrue (is_clean f.store) → IsWholeRun program own n f.status (length f.harvest.outputs.items)
   pub ends : HasEnds n lines own f.ends
+
+-- there are no more images than processes that there can be
+abbrev pub FitsCluster : Config → Type 0
+FitsCluster config = length config.images.items ≤ MAX_PROCESSES
+
+-- the program of the process is that of the image
+abbrev pub IsProgramOf : List Program → ℕ → Image → Type 0
+IsProgramOf programs own image = slice_get programs own ≡ Some (program_of image)
 
 -- the run gave its workers turns, and let them ask the gate
 pub record IsGiven (config : Config) : Type 0 where

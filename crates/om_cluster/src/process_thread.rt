@@ -2,8 +2,8 @@
 
 ghost use Rattle.std.specs.Prelude.{◌≡◌, IfOk, Some, slice_get};
 ghost use Rattle.om_process.specs.Images.{program_of};
-ghost use Rattle.om_node.specs.Nodes.{AreAlwaysClean};
-ghost use Rattle.om_cluster.specs.Ends.{IsEndOf, IsOwnEnd};
+ghost use Rattle.om_node.specs.Nodes.{AreAlwaysClean, HasCleanStores};
+ghost use Rattle.om_cluster.specs.Ends.{IsEndOf, IsOwnEnd, IsProgramOf};
 
 use crate::finished::Finished;
 use crate::ground::Cluster;
@@ -40,8 +40,8 @@ pub trait ProcessThread {
         image: &'a Image,
         job: Job<'a, K, J, O::Store>,
     ) -> Result<Finished<K, O::Store>, RunFault>
-        requires program { slice_get K.programs job.links.ends.own ≡ Some (program_of image.now) }
-        requires clean { K.OverClean → AreAlwaysClean O.Store.is_clean }
+        requires program { IsProgramOf K.programs job.links.ends.own image.now }
+        requires clean { HasCleanStores K.OverClean O.Store.is_clean }
         ensures end { let l = job.entry.links.ends in
             IfOk result (λ f. IsEndOf O.Store.is_clean (program_of image.entry.now) l.lines l.own l.n f) }
         ensures own { IsOwnEnd cluster.now.config.now job.entry.links.ends.own result };

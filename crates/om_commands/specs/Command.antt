@@ -32,8 +32,7 @@ IsErrorOf meaning start IsEmpty bytes errors.CannotRead = Unit {0}
 IsErrorOf meaning start IsEmpty bytes errors.CannotWrite = Unit {0}
 IsErrorOf meaning start IsEmpty bytes errors.NoMemory = Unit {0}
 IsErrorOf meaning start IsEmpty bytes errors.EmptyScript = (script : _) × IsScript meaning start bytes script × IsEmpty script
-IsErrorOf meaning start IsEmpty bytes (errors.Script error) =
-    (length bytes ≤ MAX_BYTES) × (script_of meaning start bytes ≡ Err error)
+IsErrorOf meaning start IsEmpty bytes (errors.Script error) = (length bytes ≤ MAX_BYTES) × (script_of meaning start bytes ≡ Err error)
 IsErrorOf meaning start IsEmpty bytes _ = ⊥
 
 -- no error but a writer's leaves anything written

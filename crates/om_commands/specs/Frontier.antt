@@ -1,13 +1,9 @@
 -- What the command `frontier` answers to the bytes of its input.
 use Rattle.std.specs.Prelude.{◌≡◌, ℕ, List, None, Some}
 use Rattle.om_commands.specs.Command.{AnswersScript}
-use Rattle.om_commands.specs.RecordScript.{RecordLines, no_records, record_script_line}
+use Rattle.om_commands.specs.RecordScript.{no_records, record_script_line}
 use Rattle.om_commands.specs.Report.{IsReport}
 
--- the report on the notes of a script
-abbrev pub IsFrontierAnswer : RecordLines → List ℕ → Type 0
-IsFrontierAnswer script text = (n : ℕ) × (script.processes ≡ Some n) × IsReport n script.notes text
-
--- the answer to the script that these bytes are
+-- the report on the notes of the script that these bytes are
 abbrev pub IsFrontier : List ℕ → List ℕ → Type 0
-IsFrontier bytes text = AnswersScript record_script_line no_records IsFrontierAnswer bytes text
+IsFrontier = AnswersScript record_script_line no_records (λ script text. (n : ℕ) × (script.processes ≡ Some n) × IsReport n script.notes text)

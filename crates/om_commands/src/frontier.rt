@@ -1,10 +1,11 @@
 //! The command `frontier`: the recovery state after each note of a record script.
 
-ghost use Rattle.std.specs.Prelude.{◌≡◌, ◌⊎◌, ℕ, List, None, IfSome, IfOk, IfErr, OnOk, string_bytes};
+ghost use Rattle.std.specs.Prelude.{◌≡◌, ◌⊎◌, ℕ, List, None, IfSome, IfOk, IfErr, OnOk, string_bytes, Some};
 ghost use Rattle.std.specs.Io.KnownBytes.{Appends, Keeps};
 ghost use Rattle.om_commands.specs.Command.{IsErrorOf, IsSilent};
-ghost use Rattle.om_commands.specs.Frontier.{IsFrontier, IsFrontierAnswer};
+ghost use Rattle.om_commands.specs.Frontier.{IsFrontier};
 ghost use Rattle.om_commands.specs.RecordScript.{no_records, record_script_line};
+ghost use Rattle.om_commands.specs.Report.{IsReport};
 
 use crate::command::write_answer;
 use crate::error::CommandError;
@@ -35,7 +36,7 @@ pub fn frontier<R: Read, W: Write>(
 
 // Returns the text that answers a script.
 fn answer(alloc: Global, script: &RecordScript) -> Result<String, CommandError>
-    ensures text { IfOk result (λ text. IsFrontierAnswer script.now (string_bytes text)) }
+    ensures text { IfOk result (λ text. (n : ℕ) × (script.now.processes ≡ Some n) × IsReport n script.now.notes (string_bytes text)) }
     ensures error { IfErr result (λ error. (error ≡ CommandError.NoMemory)
         ⊎ ((error ≡ CommandError.EmptyScript) × (script.now.processes ≡ None))) }
 {

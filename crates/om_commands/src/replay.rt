@@ -5,7 +5,7 @@ ghost use Rattle.std.specs.Io.KnownBytes.{Appends, Keeps};
 ghost use Rattle.om_stable.specs.Calls.{IsCleanCall, UsesStore, LeavesContent};
 ghost use Rattle.om_process.specs.Stored.{anyone, CanReplay};
 ghost use Rattle.om_commands.specs.Command.{IsSilent};
-ghost use Rattle.om_commands.specs.Replay.{IsNoMatterOfContent, IsReplayError, IsReplayText};
+ghost use Rattle.om_commands.specs.Replay.{IsNoMatterOfContent, IsReplayError, IsReplayText, TellsReplayError, RefusesForNoContent};
 
 use crate::command::write_answer;
 use crate::error::CommandError;
@@ -27,10 +27,8 @@ pub fn replay<S: Stable, W: Write>(
     ensures text { IsCleanCall S.is_clean S.IsSound store.old store.new
         → OnOk result ((text : List ℕ) × IsReplayText (S.content store.old) interval text
         × Appends (W.contents writer.old) (W.contents writer.new) text) }
-    ensures error { IsCleanCall S.is_clean S.IsSound store.old store.new
-        → IfErr result (IsReplayError (S.content store.old) interval) }
-    ensures only { IsCleanCall S.is_clean S.IsSound store.old store.new → CanReplay anyone (S.content store.old) interval
-        → IfErr result IsNoMatterOfContent }
+    ensures error { TellsReplayError S.content S.is_clean S.IsSound interval store.old result store.new }
+    ensures only { RefusesForNoContent S.content S.is_clean S.IsSound interval store.old result store.new }
     ensures silent { IfErr result (λ error. IsSilent error (Keeps (W.contents writer.old) (W.contents writer.new))) }
     ensures same { LeavesContent S.content S.is_clean S.IsSound store.old store.new }
     ensures used { UsesStore S.failed S.is_clean S.IsSound store.old (IsErrOf result CommandError.StoreFault) store.new }
@@ -43,10 +41,8 @@ pub fn replay<S: Stable, W: Write>(
 fn replayed<S: Stable>(alloc: Global, store: &mut S, interval: u32) -> Result<String, CommandError>
     ensures text { IsCleanCall S.is_clean S.IsSound store.old store.new
         → IfOk result (λ text. IsReplayText (S.content store.old) interval (string_bytes text)) }
-    ensures error { IsCleanCall S.is_clean S.IsSound store.old store.new
-        → IfErr result (IsReplayError (S.content store.old) interval) }
-    ensures only { IsCleanCall S.is_clean S.IsSound store.old store.new → CanReplay anyone (S.content store.old) interval
-        → IfErr result IsNoMatterOfContent }
+    ensures error { TellsReplayError S.content S.is_clean S.IsSound interval store.old result store.new }
+    ensures only { RefusesForNoContent S.content S.is_clean S.IsSound interval store.old result store.new }
     ensures silent { result ≢ Err CommandError.CannotWrite }
     ensures same { LeavesContent S.content S.is_clean S.IsSound store.old store.new }
     ensures used { UsesStore S.failed S.is_clean S.IsSound store.old (IsErrOf result CommandError.StoreFault) store.new }

@@ -5,7 +5,7 @@ ghost use Rattle.std.specs.Io.KnownBytes.{Appends, Keeps};
 ghost use Rattle.om_stable.specs.Calls.{IsCleanCall, UsesStore, LeavesContent};
 ghost use Rattle.om_process.specs.Stored.{anyone, CanReplay};
 ghost use Rattle.om_commands.specs.Command.{IsSilent};
-ghost use Rattle.om_commands.specs.Replay.{IsNoMatterOfContent, IsReplayError};
+ghost use Rattle.om_commands.specs.Replay.{IsNoMatterOfContent, IsReplayError, TellsReplayError, RefusesForNoContent};
 ghost use Rattle.om_commands.specs.ReplaySteps.{IsStepsText, TakesSteps};
 ghost use Rattle.om_commands.specs.steps.Behind.{IsTextBehind};
 
@@ -33,10 +33,8 @@ pub fn replay_steps<S: Stable, W: Write>(
     ensures text { IsCleanCall S.is_clean S.IsSound store.old store.new
         → OnOk result ((text : List ℕ) × IsStepsText (S.content store.old) interval steps traced text
         × Appends (W.contents writer.old) (W.contents writer.new) text) }
-    ensures error { IsCleanCall S.is_clean S.IsSound store.old store.new
-        → IfErr result (IsReplayError (S.content store.old) interval) }
-    ensures only { IsCleanCall S.is_clean S.IsSound store.old store.new → CanReplay anyone (S.content store.old) interval
-        → IfErr result IsNoMatterOfContent }
+    ensures error { TellsReplayError S.content S.is_clean S.IsSound interval store.old result store.new }
+    ensures only { RefusesForNoContent S.content S.is_clean S.IsSound interval store.old result store.new }
     ensures silent { IfErr result (λ error. IsSilent error (Keeps (W.contents writer.old) (W.contents writer.new))) }
     ensures same { LeavesContent S.content S.is_clean S.IsSound store.old store.new }
     ensures used { UsesStore S.failed S.is_clean S.IsSound store.old (IsErrOf result CommandError.StoreFault) store.new }
@@ -55,10 +53,8 @@ fn stepped<S: Stable>(
 ) -> Result<Vec<u8>, CommandError>
     ensures text { IsCleanCall S.is_clean S.IsSound store.old store.new
         → IfOk result (λ text. IsStepsText (S.content store.old) interval steps traced text.items) }
-    ensures error { IsCleanCall S.is_clean S.IsSound store.old store.new
-        → IfErr result (IsReplayError (S.content store.old) interval) }
-    ensures only { IsCleanCall S.is_clean S.IsSound store.old store.new → CanReplay anyone (S.content store.old) interval
-        → IfErr result IsNoMatterOfContent }
+    ensures error { TellsReplayError S.content S.is_clean S.IsSound interval store.old result store.new }
+    ensures only { RefusesForNoContent S.content S.is_clean S.IsSound interval store.old result store.new }
     ensures silent { result ≢ Err CommandError.CannotWrite }
     ensures same { LeavesContent S.content S.is_clean S.IsSound store.old store.new }
     ensures used { UsesStore S.failed S.is_clean S.IsSound store.old (IsErrOf result CommandError.StoreFault) store.new }

@@ -5,14 +5,14 @@ use Rattle.om_requests.specs.declared.request.Request.TheVariants as requests
 use Rattle.om_debug.specs.declared.debugger.Reply.{Reply}
 use Rattle.om_debug.specs.declared.stop.Stop.{Stop}
 use Rattle.om_debug.specs.Monitor.{IsCommanded}
-use Rattle.om_debug.specs.Stops.{DebugState, IsPassed, IsRunBack, IsStepBack, StandsFor, stop_text, with_timeline}
+use Rattle.om_debug.specs.Stops.{DebugState, IsPassed, IsRunBack, IsStepBack, StandsFor, stop_text, with_timeline, ChangesTimelineAlone}
 use Rattle.om_debug.specs.Told.{asked, clear_break, clear_watch, set_break, set_watch, text_of, with_breaks, with_watches}
 
 -- the process has gone on: nothing stops it at any position that it passed, and it stands where it does for this, which is told
 pub record IsResumed (old : DebugState) (told : Reply) (new : DebugState) : Type 0 where
   pub stop : Stop
   pub text : text_of told ≡ stop_text stop
-  pub same : new ≡ with_timeline old new.timeline
+  pub same : ChangesTimelineAlone old new
   pub passed : IsPassed old new
   pub stands : StandsFor new stop
 
@@ -20,14 +20,14 @@ pub record IsResumed (old : DebugState) (told : Reply) (new : DebugState) : Type
 pub record IsSteppedBack (old : DebugState) (told : Reply) (new : DebugState) : Type 0 where
   pub stop : Stop
   pub text : text_of told ≡ stop_text stop
-  pub same : new ≡ with_timeline old new.timeline
+  pub same : ChangesTimelineAlone old new
   pub back : IsStepBack old new stop
 
 -- the process has gone back to a stop, which is told
 pub record IsGoneBack (old : DebugState) (told : Reply) (new : DebugState) : Type 0 where
   pub stop : Stop
   pub text : text_of told ≡ stop_text stop
-  pub same : new ≡ with_timeline old new.timeline
+  pub same : ChangesTimelineAlone old new
   pub back : IsRunBack old new stop
 
 -- what a packet is told, and what it leaves

@@ -10,7 +10,7 @@ use Rattle.om_timeline.specs.Timeline.{TimelineState, machine_here}
 use Rattle.om_debug.specs.declared.debugger.Reply.{Reply}
 use Rattle.om_debug.specs.declared.monitor.TheConstants.{EVENTS_BEFORE, EVENTS_FROM, HELP}
 use Rattle.om_debug.specs.Standing.{standing_text}
-use Rattle.om_debug.specs.Stops.{DebugState, with_timeline}
+use Rattle.om_debug.specs.Stops.{DebugState, with_timeline, ChangesTimelineAlone}
 use Rattle.om_debug.specs.Told.{text_of}
 
 -- ---- texts
@@ -68,5 +68,5 @@ IsSaid text told = text_of told ≡ encode_lower text
 abbrev pub IsCommanded : Command → DebugState → Reply → DebugState → Type 0
 IsCommanded commands.Where old told new = (new ≡ old) × IsSaid (where_text old) told
 IsCommanded commands.Events old told new = (new ≡ old) × IsSaid (events_text old.timeline) told
-IsCommanded (commands.Goto number) old told new = (new ≡ with_timeline old new.timeline) × IsAtEvent number new.timeline × IsSaid (where_text new) told
+IsCommanded (commands.Goto number) old told new = ChangesTimelineAlone old new × IsAtEvent number new.timeline × IsSaid (where_text new) told
 IsCommanded commands.Help old told new = (new ≡ old) × IsSaid help_text told

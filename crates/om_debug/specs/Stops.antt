@@ -85,6 +85,10 @@ pub record IsMoved (old new : TimelineState) : Type 0 where
 abbrev pub with_timeline : DebugState → TimelineState → DebugState
 with_timeline d t = record d { timeline = t }
 
+-- only the timeline changed
+abbrev pub ChangesTimelineAlone : DebugState → DebugState → Type 0
+ChangesTimelineAlone old new = new ≡ with_timeline old new.timeline
+
 -- the position is one of the tape
 pub record IsWithin (t : TimelineState) : Type 0 where
   pub played : t.event ≤ length t.deeds
@@ -136,6 +140,10 @@ pub record IsLast (deeds : List Deed) (event turns end done : ℕ) : Type 0 wher
 -- at another position
 abbrev pub standing : DebugState → ℕ → ℕ → DebugState
 standing d event turns = with_timeline d (at d.timeline event turns)
+
+-- only the position changed
+abbrev pub ChangesPositionAlone : DebugState → DebugState → Type 0
+ChangesPositionAlone old new = new ≡ standing old new.timeline.event new.timeline.turns
 
 -- a step back leads here, for this: right before what came last to the process, where a breakpoint may stand; or it stays, where that
 -- accesses what is watched, or where nothing came before

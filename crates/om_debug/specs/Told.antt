@@ -1,5 +1,5 @@
 -- What packets that only ask are told.
-use Rattle.std.specs.Prelude.{ℕ, Bool, true, false, not, ◌&&◌, ◌==◌, List, [], ◌∷◌, ◌++◌, filter, if◌then◌else◌, codes}
+use Rattle.std.specs.Prelude.{ℕ, Bool, true, false, not, ◌&&◌, ◌==◌, List, [], ◌∷◌, ◌++◌, filter, if◌then◌else◌, codes, ◌≡◌}
 use Rattle.std.specs.List.{list_any}
 use Rattle.om_requests.specs.Answers.{error_text, memory_text, piece_text, registers_text, target_text}
 use Rattle.om_requests.specs.declared.request.Request.{Request}
@@ -49,6 +49,14 @@ text_of (Last bytes) = bytes.items
 abbrev pub is_last : Reply → Bool
 is_last (Text bytes) = false
 is_last (Last bytes) = true
+
+-- it is not
+abbrev pub IsNotLast : Reply → Type 0
+IsNotLast reply = is_last reply ≡ false
+
+-- nothing was read
+abbrev pub ReadsNothing : {R Bytes : Type 0} → (R → Bytes) → R → R → Type 0
+ReadsNothing remaining old new = remaining new ≡ remaining old
 
 -- a packet leaves the process, or ends it
 abbrev pub is_leaving : Request → Bool

@@ -3,10 +3,10 @@
 ghost use Rattle.std.specs.Prelude.{◌≡◌, IfOk, OnErr, OnOk, [], false};
 ghost use Rattle.std.specs.List.{list_any};
 ghost use Rattle.om_requests.specs.Requests.{request_of};
-ghost use Rattle.om_debug.specs.Stops.{IsMoved, stop_text, with_timeline};
+ghost use Rattle.om_debug.specs.Stops.{IsMoved, stop_text, with_timeline, ChangesTimelineAlone};
 ghost use Rattle.om_debug.specs.Answered.{IsAnswered};
 ghost use Rattle.om_debug.specs.Monitor.{IsCommanded, IsSaid, where_text};
-ghost use Rattle.om_debug.specs.Told.{asked, clear_break, clear_watch, is_last, is_leaving, is_there, is_watch, is_watched, ok_if, set_break, set_watch, text_of, with_breaks, with_watches};
+ghost use Rattle.om_debug.specs.Told.{asked, clear_break, clear_watch, is_last, is_leaving, is_there, is_watch, is_watched, ok_if, set_break, set_watch, text_of, with_breaks, with_watches, ReadsNothing, IsNotLast};
 
 use crate::monitor::HELP;
 use crate::stop::{Stop, stop_text};
@@ -102,7 +102,7 @@ impl Debugger {
         ensures last { IfOk result (λ told. is_last told ≡ is_leaving (request_of packet.now)) }
         ensures moved { IsMoved self.old.timeline self.new.timeline }
         ensures refused { OnErr result (self.new ≡ with_timeline self.old self.new.timeline) }
-        ensures unread { R.remaining reader.new ≡ R.remaining reader.old }
+        ensures unread { ReadsNothing R.remaining reader.old reader.new }
     {
         let request = request_of(self.alloc, packet)?;
         self.answer_to(request, reader)
@@ -113,7 +113,7 @@ impl Debugger {
         ensures last { IfOk result (λ told. is_last told ≡ is_leaving request) }
         ensures moved { IsMoved self.old.timeline self.new.timeline }
         ensures refused { OnErr result (self.new ≡ with_timeline self.old self.new.timeline) }
-        ensures unread { R.remaining reader.new ≡ R.remaining reader.old }
+        ensures unread { ReadsNothing R.remaining reader.old reader.new }
     {
         match request {
             Request::Resume(how) => {
@@ -156,9 +156,9 @@ impl Debugger {
     }
 
     fn commanded(&mut self, command: Command) -> Result<Reply, PlayFault>
-        ensures last { IfOk result (λ told. is_last told ≡ false) }
+        ensures last { IfOk result IsNotLast }
         ensures moved { IsMoved self.old.timeline self.new.timeline }
-        ensures same { self.new ≡ with_timeline self.old self.new.timeline }
+        ensures same { ChangesTimelineAlone self.old self.new }
         ensures commanded { IfOk result (λ told. IsCommanded command self.old told self.new) }
     {
         match command {
@@ -178,7 +178,7 @@ impl Debugger {
     // Returns where time and the process stand, as it is told.
     fn said_where(&self) -> Result<Reply, PlayFault>
         ensures said { IfOk result (λ told. IsSaid (where_text self.now) told) }
-        ensures last { IfOk result (λ told. is_last told ≡ false) }
+        ensures last { IfOk result IsNotLast }
     {
         let text = self.told_where()?;
         Ok(self.said(&text)?)
@@ -187,7 +187,7 @@ impl Debugger {
     // Makes a text for the user, whose bytes are told in hexadecimal.
     fn said(&self, text: &str) -> Result<Reply, AllocError>
         ensures said { IfOk result (λ told. IsSaid text.now told) }
-        ensures last { IfOk result (λ told. is_last told ≡ false) }
+        ensures last { IfOk result IsNotLast }
     {
         Ok(Reply::Text(hex::encode(self.alloc, text.as_bytes())?.into_bytes()))
     }
@@ -195,21 +195,21 @@ impl Debugger {
     /// Tells that the process stands where it stands, as one who asked for a stop is told. Refused only where memory ran out.
     pub fn interrupted(&self) -> Result<Reply, AllocError>
         ensures paused { IfOk result (λ told. text_of told ≡ stop_text Stop.Paused) }
-        ensures last { IfOk result (λ told. is_last told ≡ false) }
+        ensures last { IfOk result IsNotLast }
     {
         self.stopped(Stop::Paused)
     }
 
     fn text(&self, text: &str) -> Result<Reply, AllocError>
         ensures text { IfOk result (λ told. text_of told ≡ text.now) }
-        ensures last { IfOk result (λ told. is_last told ≡ false) }
+        ensures last { IfOk result IsNotLast }
     {
         Ok(Reply::Text(bytes(self.alloc, text)?))
     }
 
     fn stopped(&self, stop: Stop) -> Result<Reply, AllocError>
         ensures text { IfOk result (λ told. text_of told ≡ stop_text stop) }
-        ensures last { IfOk result (λ told. is_last told ≡ false) }
+        ensures last { IfOk result IsNotLast }
     {
         Ok(Reply::Text(stop_text(self.alloc, stop)?.into_bytes()))
     }

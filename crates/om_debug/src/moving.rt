@@ -6,9 +6,10 @@ ghost use Rattle.om_debug.specs.Moments.{next_at};
 ghost use Rattle.om_debug.specs.Monitor.{IsAtEvent};
 ghost use Rattle.om_timeline.specs.declared.tape.Peek.{Peek};
 ghost use Rattle.om_timeline.specs.Deeds.{turns_at};
-ghost use Rattle.om_debug.specs.Stops.{IsBefore, IsBehind, IsFrom, IsLast, IsLookedBack, IsMoved, IsPartBack, IsPassed, IsQuiet, IsQuietRest, IsRunBack, IsStepBack, IsStillBefore, IsWithin, StandsFor, breaks_here, has_stops, standing, stop_here, watch_here, with_timeline};
+ghost use Rattle.om_debug.specs.Stops.{IsBefore, IsBehind, IsFrom, IsLast, IsLookedBack, IsMoved, IsPartBack, IsPassed, IsQuiet, IsQuietRest, IsRunBack, IsStepBack, IsStillBefore, IsWithin, StandsFor, breaks_here, has_stops, standing, stop_here, watch_here, with_timeline, ChangesTimelineAlone, ChangesPositionAlone};
 ghost use Rattle.om_debug.specs.steps.Scanning.{IsOver, IsPart};
 ghost use Rattle.om_debug.specs.steps.Stepping.{before_last};
+ghost use Rattle.om_debug.specs.Told.{ReadsNothing};
 
 use crate::debugger::Debugger;
 use crate::moment::{Next, is_at_instruction, is_down, next_at};
@@ -77,10 +78,10 @@ impl Debugger {
         reader: &mut R,
     ) -> Result<Stop, PlayFault>
         ensures moved { IsMoved self.old.timeline self.new.timeline }
-        ensures same { self.new ≡ with_timeline self.old self.new.timeline }
+        ensures same { ChangesTimelineAlone self.old self.new }
         ensures passed { OnOk result (IsPassed self.old self.new) }
         ensures stands { IfOk result (λ stop. StandsFor self.new stop) }
-        ensures unread { R.remaining reader.new ≡ R.remaining reader.old }
+        ensures unread { ReadsNothing R.remaining reader.old reader.new }
     {
         'pieces: for pieces in 0..MOST_PIECES {
             if let Some(stop) = self.advance(how)? {
@@ -98,7 +99,7 @@ impl Debugger {
     fn advance(&mut self, how: Resume) -> Result<Option<Stop>, PlayFault>
         ensures within { IsWithin self.old.timeline }
         ensures moved { IsMoved self.old.timeline self.new.timeline }
-        ensures same { self.new ≡ with_timeline self.old self.new.timeline }
+        ensures same { ChangesTimelineAlone self.old self.new }
         ensures passed { OnOk result (IsPassed self.old self.new) }
         ensures stands { IfOk result (λ stop. IfSome stop (λ stop. StandsFor self.new stop)) }
     {
@@ -120,7 +121,7 @@ impl Debugger {
     pub fn go_on(&mut self, how: Resume) -> Result<Option<Stop>, PlayFault>
         ensures within { IsWithin self.old.timeline }
         ensures moved { IsMoved self.old.timeline self.new.timeline }
-        ensures same { self.new ≡ with_timeline self.old self.new.timeline }
+        ensures same { ChangesTimelineAlone self.old self.new }
         ensures passed { OnOk result (IsPassed self.old self.new) }
         ensures stands { IfOk result (λ stop. IfSome stop (λ stop. StandsFor self.new stop)) }
     {
@@ -139,7 +140,7 @@ impl Debugger {
     pub fn look(&mut self) -> Result<Peek, PlayFault>
         ensures before { IsWithin self.old.timeline }
         ensures moved { IsMoved self.old.timeline self.new.timeline }
-        ensures same { self.new ≡ with_timeline self.old self.new.timeline }
+        ensures same { ChangesTimelineAlone self.old self.new }
         ensures passed { OnOk result (IsPassed self.old self.new) }
         ensures within { OnOk result (IsWithin self.new.timeline) }
         ensures end { IfOk result (λ look. look ≡ Peek.End → length self.new.timeline.events ≤ self.new.timeline.event) }
@@ -221,7 +222,7 @@ impl Debugger {
     fn make(&mut self, how: Resume) -> Result<(), PlayFault>
         requires quiet { stop_here self.old ≡ None }
         ensures moved { IsMoved self.old.timeline self.new.timeline }
-        ensures same { self.new ≡ with_timeline self.old self.new.timeline }
+        ensures same { ChangesTimelineAlone self.old self.new }
         ensures passed { OnOk result (IsPassed self.old self.new) }
     {
         if self.is_free(how) {
@@ -238,7 +239,7 @@ impl Debugger {
     fn make_freely(&mut self) -> Result<(), PlayFault>
         requires quiet { IsQuietRest self.old }
         ensures moved { IsMoved self.old.timeline self.new.timeline }
-        ensures same { self.new ≡ with_timeline self.old self.new.timeline }
+        ensures same { ChangesTimelineAlone self.old self.new }
         ensures passed { OnOk result (IsPassed self.old self.new) }
     {
         if self.turns_left() > MOST_AT_ONCE {
@@ -264,7 +265,7 @@ impl Debugger {
     fn step(&mut self)
         requires quiet { stop_here self.old ≡ None }
         ensures moved { IsMoved self.old.timeline self.new.timeline }
-        ensures same { self.new ≡ with_timeline self.old self.new.timeline }
+        ensures same { ChangesTimelineAlone self.old self.new }
         ensures passed { IsPassed self.old self.new }
     {
         self.timeline.step_one();
@@ -276,7 +277,7 @@ impl Debugger {
         requires quiet { IsQuietRest self.old }
         requires left { self.old.timeline.turns + turns ≤ turns_at self.old.timeline.deeds self.old.timeline.event }
         ensures moved { IsMoved self.old.timeline self.new.timeline }
-        ensures same { self.new ≡ with_timeline self.old self.new.timeline }
+        ensures same { ChangesTimelineAlone self.old self.new }
         ensures passed { IsPassed self.old self.new }
     {
         self.timeline.step_many(turns);
@@ -287,7 +288,7 @@ impl Debugger {
     fn pass(&mut self) -> Result<(), PlayFault>
         requires quiet { IsQuietRest self.old }
         ensures moved { IsMoved self.old.timeline self.new.timeline }
-        ensures same { self.new ≡ with_timeline self.old self.new.timeline }
+        ensures same { ChangesTimelineAlone self.old self.new }
         ensures passed { OnOk result (IsPassed self.old self.new) }
     {
         self.timeline.pass(self.alloc)?;
@@ -298,9 +299,9 @@ impl Debugger {
     /// watched, the process stays right behind that access. Refused where memory ran out: then it stands somewhere before where it stood.
     #[tactic(auto, using(crate::proofs::Moved::moved_then, crate::proofs::Moved::same_then, crate::proofs::Moved::moved_not, crate::proofs::Stepping::stepped_as, crate::proofs::Stepping::last_stands, crate::proofs::Stepping::within_stands, crate::proofs::Stepping::few_stands, crate::proofs::Stepping::last_within, crate::proofs::Backwards::stands_then))]
     pub fn step_back(&mut self) -> Result<Stop, PlayFault>
-        ensures stands { self.new ≡ standing self.old self.new.timeline.event self.new.timeline.turns }
+        ensures stands { ChangesPositionAlone self.old self.new }
         ensures moved { IsMoved self.old.timeline self.new.timeline }
-        ensures same { self.new ≡ with_timeline self.old self.new.timeline }
+        ensures same { ChangesTimelineAlone self.old self.new }
         ensures back { IfOk result (λ stop. IsStepBack self.old self.new stop) }
     {
         let behind = self.timeline.position();
@@ -318,8 +319,8 @@ impl Debugger {
         requires event { to.event ≤ length self.old.timeline.deeds }
         requires turns { to.turns ≤ turns_at self.old.timeline.deeds to.event }
         ensures moved { IsMoved self.old.timeline self.new.timeline }
-        ensures same { self.new ≡ with_timeline self.old self.new.timeline }
-        ensures stands { self.new ≡ standing self.old self.new.timeline.event self.new.timeline.turns }
+        ensures same { ChangesTimelineAlone self.old self.new }
+        ensures stands { ChangesPositionAlone self.old self.new }
         ensures there { OnOk result (self.new ≡ standing self.old to.event to.turns) }
     {
         self.timeline.go_to(self.alloc, to)?;
@@ -332,9 +333,9 @@ impl Debugger {
         requires event { behind.event ≤ length self.old.timeline.deeds }
         requires turns { behind.turns ≤ turns_at self.old.timeline.deeds behind.event }
         requires last { IsLast self.old.timeline.deeds self.old.timeline.event self.old.timeline.turns behind.event behind.turns }
-        ensures stands { self.new ≡ standing self.old self.new.timeline.event self.new.timeline.turns }
+        ensures stands { ChangesPositionAlone self.old self.new }
         ensures moved { IsMoved self.old.timeline self.new.timeline }
-        ensures same { self.new ≡ with_timeline self.old self.new.timeline }
+        ensures same { ChangesTimelineAlone self.old self.new }
         ensures back { IfOk result (λ stop. IsStepBack (standing self.old behind.event behind.turns) self.new stop) }
     {
         if let Some(watch) = self.watch_here() {
@@ -351,11 +352,11 @@ impl Debugger {
     /// asked whether a stop is wished. Refused where memory ran out, and then it stands at a position before that.
     #[tactic(auto, using(crate::proofs::Backwards::stands_not, crate::proofs::Backwards::stands_then, crate::proofs::Backwards::stands_moved, crate::proofs::Backwards::stands_same, crate::proofs::Backwards::run_start, crate::proofs::Backwards::run_more, crate::proofs::Backwards::run_stop))]
     pub fn run_back<R: Wish>(&mut self, reader: &mut R) -> Result<Stop, PlayFault>
-        ensures stands { self.new ≡ standing self.old self.new.timeline.event self.new.timeline.turns }
+        ensures stands { ChangesPositionAlone self.old self.new }
         ensures moved { IsMoved self.old.timeline self.new.timeline }
-        ensures same { self.new ≡ with_timeline self.old self.new.timeline }
+        ensures same { ChangesTimelineAlone self.old self.new }
         ensures back { IfOk result (λ stop. IsRunBack self.old self.new stop) }
-        ensures unread { R.remaining reader.new ≡ R.remaining reader.old }
+        ensures unread { ReadsNothing R.remaining reader.old reader.new }
     {
         'parts: for _ in 0..MOST_PIECES {
             match self.part_back(reader)? {
@@ -375,9 +376,9 @@ impl Debugger {
         event: usize,
         reader: &mut R,
     ) -> Result<Option<Stop>, PlayFault>
-        ensures stands { self.new ≡ standing self.old self.new.timeline.event self.new.timeline.turns }
+        ensures stands { ChangesPositionAlone self.old self.new }
         ensures back { IfOk result (λ stop. IsLookedBack event self.old self.new stop) }
-        ensures unread { R.remaining reader.new ≡ R.remaining reader.old }
+        ensures unread { ReadsNothing R.remaining reader.old reader.new }
     {
         'parts: for _ in 0..MOST_PIECES {
             let Some(before) = self.last_from(event) else {
@@ -394,9 +395,9 @@ impl Debugger {
     // Goes back to a position that is kept, or to the last stop behind that, if there is one.
     #[tactic(auto, using(crate::proofs::Backwards::stands_then, crate::proofs::Backwards::back_begin))]
     fn part_back<R: Wish>(&mut self, reader: &mut R) -> Result<Option<Stop>, PlayFault>
-        ensures stands { self.new ≡ standing self.old self.new.timeline.event self.new.timeline.turns }
+        ensures stands { ChangesPositionAlone self.old self.new }
         ensures back { IfOk result (λ stop. IsPartBack self.old self.new stop) }
-        ensures unread { R.remaining reader.new ≡ R.remaining reader.old }
+        ensures unread { ReadsNothing R.remaining reader.old reader.new }
     {
         match self.last_watched() {
             Some(before) => self.part_behind(before, 0, reader),
@@ -418,9 +419,9 @@ impl Debugger {
     ) -> Result<Option<Stop>, PlayFault>
         requires last { IsLast self.old.timeline.deeds before.event before.turns self.old.timeline.event self.old.timeline.turns }
         requires event { event ≤ before.event }
-        ensures stands { self.new ≡ standing self.old self.new.timeline.event self.new.timeline.turns }
+        ensures stands { ChangesPositionAlone self.old self.new }
         ensures back { IfOk result (λ stop. IsPartBack self.old self.new stop) }
-        ensures unread { R.remaining reader.new ≡ R.remaining reader.old }
+        ensures unread { ReadsNothing R.remaining reader.old reader.new }
     {
         let end = self.timeline.position();
         self.stand_kept(before, event)?;
@@ -447,7 +448,7 @@ impl Debugger {
 
     // Goes back to before the first event.
     fn stand_first(&mut self) -> Result<(), PlayFault>
-        ensures stands { self.new ≡ standing self.old self.new.timeline.event self.new.timeline.turns }
+        ensures stands { ChangesPositionAlone self.old self.new }
         ensures there { OnOk result (self.new ≡ standing self.old 0 0) }
     {
         self.timeline.rewind(self.alloc)?;
@@ -459,7 +460,7 @@ impl Debugger {
     fn stand_kept(&mut self, to: Position, event: usize) -> Result<(), PlayFault>
         requires played { to.event ≤ length self.old.timeline.deeds }
         requires event { event ≤ to.event }
-        ensures stands { self.new ≡ standing self.old self.new.timeline.event self.new.timeline.turns }
+        ensures stands { ChangesPositionAlone self.old self.new }
         ensures order { OnOk result (IsFrom self.new.timeline.event self.new.timeline.turns to.event to.turns) }
     {
         self.timeline.go_to_kept(self.alloc, to)?;
@@ -505,9 +506,9 @@ impl Debugger {
     fn last_stop<R: Wish>(&mut self, end: Position, reader: &mut R) -> Result<Part, PlayFault>
         requires event { end.event ≤ length self.old.timeline.deeds }
         requires turns { end.turns ≤ turns_at self.old.timeline.deeds end.event }
-        ensures stands { self.new ≡ standing self.old self.new.timeline.event self.new.timeline.turns }
+        ensures stands { ChangesPositionAlone self.old self.new }
         ensures part { IfOk result (λ part. IsPart self.old end.event end.turns end.event end.turns part) }
-        ensures unread { R.remaining reader.new ≡ R.remaining reader.old }
+        ensures unread { ReadsNothing R.remaining reader.old reader.new }
     {
         let mut last = Part::Quiet;
         'pieces: for pieces in 0..MOST_PIECES {
@@ -526,7 +527,7 @@ impl Debugger {
     #[tactic(auto, using(crate::proofs::Backwards::over_on, crate::proofs::Backwards::over_breaks, crate::proofs::Backwards::over_meets, crate::proofs::Backwards::breaks_stop, crate::proofs::Backwards::none_stop))]
     fn back_over(&mut self, last: Part) -> Result<Part, PlayFault>
         requires played { self.old.timeline.event < length self.old.timeline.deeds }
-        ensures stands { self.new ≡ standing self.old self.new.timeline.event self.new.timeline.turns }
+        ensures stands { ChangesPositionAlone self.old self.new }
         ensures over { IfOk result (λ part. IsOver self.old self.new last part) }
     {
         let at = self.timeline.position();
@@ -549,7 +550,7 @@ impl Debugger {
     // Makes one instruction, or what else comes next.
     fn step_over(&mut self) -> Result<(), PlayFault>
         requires played { self.old.timeline.event < length self.old.timeline.deeds }
-        ensures stands { self.new ≡ standing self.old self.new.timeline.event self.new.timeline.turns }
+        ensures stands { ChangesPositionAlone self.old self.new }
         ensures behind { OnOk result (IsBehind self.old.timeline.deeds self.old.timeline.event self.old.timeline.turns self.new.timeline.event self.new.timeline.turns) }
     {
         if self.turns_left() > 1 {
@@ -564,7 +565,7 @@ impl Debugger {
     /// played on: then it stands at a position before that.
     pub fn go_to_event(&mut self, event: usize) -> Result<(), PlayFault>
         ensures moved { IsMoved self.old.timeline self.new.timeline }
-        ensures same { self.new ≡ with_timeline self.old self.new.timeline }
+        ensures same { ChangesTimelineAlone self.old self.new }
         ensures there { OnOk result (IsAtEvent event self.new.timeline) }
     {
         'pieces: for _ in 0..MOST_PIECES {
@@ -579,7 +580,7 @@ impl Debugger {
     // Goes to before an event, or plays one event more, and tells whether it stands there or at the end.
     fn go_nearer(&mut self, event: usize) -> Result<bool, PlayFault>
         ensures moved { IsMoved self.old.timeline self.new.timeline }
-        ensures same { self.new ≡ with_timeline self.old self.new.timeline }
+        ensures same { ChangesTimelineAlone self.old self.new }
         ensures there { IfOk result (λ there. there ≡ true → IsAtEvent event self.new.timeline) }
     {
         let to = Position { event, turns: 0 };

@@ -5,7 +5,7 @@ ghost use Rattle.om_process.specs.Core.{status_of};
 ghost use Rattle.om_timeline.specs.Deeds.{turns_at};
 ghost use Rattle.om_timeline.specs.Timeline.{machine_here};
 ghost use Rattle.om_debug.specs.Moments.{is_still, next_at};
-ghost use Rattle.om_debug.specs.Stops.{standing};
+ghost use Rattle.om_debug.specs.Stops.{standing, ChangesPositionAlone};
 ghost use Rattle.om_debug.specs.Standing.{standing_text};
 ghost use Rattle.om_world.specs.Texts.{status_text};
 
@@ -76,7 +76,7 @@ impl Debugger {
     /// Goes to a position, forward or back, and tells whether it is one of those that were played: else it stays. Refused where memory
     /// ran out, and then it stands at a position before that.
     pub fn go_to(&mut self, to: Position) -> Result<bool, PlayFault>
-        ensures stands { self.new ≡ standing self.old self.new.timeline.event self.new.timeline.turns }
+        ensures stands { ChangesPositionAlone self.old self.new }
         ensures there { IfOk result (λ there. there ≡ true → self.new ≡ standing self.old to.event to.turns) }
         ensures played { IfOk result (λ there. (there ≡ true)
             ↔ ((to.event ≤ length self.old.timeline.deeds) × (to.turns ≤ turns_at self.old.timeline.deeds to.event))) }

@@ -3,6 +3,7 @@
 ghost use Rattle.std.specs.Prelude.{◌≡◌, ◌↔◌, false, IfOk, IsTrue};
 ghost use Rattle.om_runner.specs.Reports.{nothing};
 ghost use Rattle.om_tables.specs.Refusals.{out_of_memory};
+ghost use Rattle.om_files.specs.Quiet.{IsIdle};
 
 use om_interval::Pid;
 use om_runner::{OpenFault, Opener};
@@ -16,7 +17,7 @@ pub trait Connects {
 
     /// A connection to the process's database. Refused, it says whether memory ran out.
     fn connect(&self, alloc: Global, pid: Pid) -> Result<Connection<Self::Disk>, OpenFault>
-        ensures { IfOk result (λ conn. conn.in_transaction ≡ false) };
+        ensures { IfOk result IsIdle };
 }
 
 /// Makes stores in the tables of databases that have nothing.

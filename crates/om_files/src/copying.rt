@@ -1,7 +1,7 @@
 //! A database of a file that is only read: what the file and its log hold is read whole, and opened from there.
 
 ghost use Rattle.std.specs.Prelude.{◌≡◌, false, IfErr, IfOk};
-ghost use Rattle.om_files.specs.Quiet.{IsQuiet};
+ghost use Rattle.om_files.specs.Quiet.{IsQuiet, IsIdle};
 
 use om_commands::CommandError;
 use om_copies::{CopyError, DatabaseBytes};
@@ -17,7 +17,7 @@ pub(crate) fn copy_of(
     rt: &HostRuntime,
     file: &str,
 ) -> Result<Connection<FileStore<Memory>>, CommandError>
-    ensures idle { IfOk result (λ conn. conn.in_transaction ≡ false) }
+    ensures idle { IfOk result IsIdle }
     ensures refused { IfErr result IsQuiet }
 {
     let bytes = bytes_of(rt, file)?;

@@ -2,6 +2,7 @@
 
 ghost use Rattle.std.specs.Prelude.{◌≡◌, false, IfOk, OnOk, IsTrue};
 ghost use Rattle.sqlite_store.specs.Unopened.{AreUsable};
+ghost use Rattle.om_files.specs.Quiet.{IsIdle};
 
 use crate::connecting::refusal_of_opening;
 use om_runner::OpenFault;
@@ -32,7 +33,7 @@ pub(crate) fn opened<D: Disk + Drop>(
 ) -> Result<Connection<FileStore<D>>, OpenFault>
     requires log { IsTrue (D.Disk.is_usable files.log) }
     requires db { IsTrue (D.Disk.is_usable files.db) }
-    ensures idle { IfOk result (λ conn. conn.in_transaction ≡ false) }
+    ensures idle { IfOk result IsIdle }
 {
     let size = PageSize::new(PAGE_BYTES).unwrap();
     match probe_blank(alloc, &mut files, size, false) {
@@ -53,7 +54,7 @@ fn made<D: Disk + Drop>(
 ) -> Result<Connection<FileStore<D>>, OpenFault>
     requires log { IsTrue (D.Disk.is_usable files.log) }
     requires db { IsTrue (D.Disk.is_usable files.db) }
-    ensures idle { IfOk result (λ conn. conn.in_transaction ≡ false) }
+    ensures idle { IfOk result IsIdle }
 {
     match are_bare(&mut files) {
         Ok(true) => laid(alloc, files, size, options),
@@ -81,7 +82,7 @@ fn laid<D: Disk + Drop>(
 ) -> Result<Connection<FileStore<D>>, OpenFault>
     requires log { IsTrue (D.Disk.is_usable files.log) }
     requires db { IsTrue (D.Disk.is_usable files.db) }
-    ensures idle { IfOk result (λ conn. conn.in_transaction ≡ false) }
+    ensures idle { IfOk result IsIdle }
 {
     let blank = blank(alloc, size, options)?;
     if lay(&mut files, blank.log.bytes(), blank.db.bytes()).is_err() {
@@ -131,7 +132,7 @@ fn made_in_place<D: Disk + Drop>(
 ) -> Result<Connection<FileStore<D>>, OpenFault>
     requires log { IsTrue (D.Disk.is_usable files.log) }
     requires db { IsTrue (D.Disk.is_usable files.db) }
-    ensures idle { IfOk result (λ conn. conn.in_transaction ≡ false) }
+    ensures idle { IfOk result IsIdle }
 {
     let store = match begun(alloc, files, size, options)?.create() {
         Ok(store) => store,
@@ -171,7 +172,7 @@ fn opened_whole<D: Disk + Drop>(
 ) -> Result<Connection<FileStore<D>>, OpenFault>
     requires log { IsTrue (D.Disk.is_usable files.log) }
     requires db { IsTrue (D.Disk.is_usable files.db) }
-    ensures idle { IfOk result (λ conn. conn.in_transaction ≡ false) }
+    ensures idle { IfOk result IsIdle }
 {
     match Connection::open_files(alloc, files, options) {
         Ok(conn) => Ok(conn),

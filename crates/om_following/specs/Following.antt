@@ -54,3 +54,9 @@ pub record IsTold {F : Type 0} (Tells : F → F → List Told → Type 0) (over_
 abbrev pub IsFollowed : {F : Type 0} → (F → F → List Told → Type 0) → Type 0 → List Program → ℕ → List ℕ → F → List FollowedOutputs → Option FollowFault → F
     → Type 0
 IsFollowed Tells over_clean programs n vec start lanes fault now = fault ≢ Some Unwanted → IsTold Tells over_clean programs n vec start lanes now
+
+-- so it still is, since any start
+abbrev pub StaysFollowed : {F : Type 0} → (F → F → List Told → Type 0) → Type 0 → List Program → ℕ → List ℕ → List FollowedOutputs → Option FollowFault → F
+    → List ℕ → List FollowedOutputs → Option FollowFault → F → Type 0
+StaysFollowed Tells over_clean programs n vec lanes fault before vec' lanes' fault' after =
+    (start : _) → IsFollowed Tells over_clean programs n vec start lanes fault before → IsFollowed Tells over_clean programs n vec' start lanes' fault' after

@@ -9,8 +9,8 @@ ghost use Rattle.om_manager.specs.State.{process_count, released_by};
 ghost use Rattle.om_report.specs.Released.{AreAllMade, AreAllReleased};
 ghost use Rattle.om_report.specs.Telling.{AreInOrder, AreToldMade, Told};
 ghost use Rattle.om_following.specs.declared.follower.FollowFault.TheVariants.{Unwanted};
-ghost use Rattle.om_following.specs.Following.{AreAllCopied, AreEmpty, AreTold, IsEmpty, IsFollowed};
-ghost use Rattle.om_following.specs.steps.Lanes.{AreMore, HasTold, HaveMore, HaveTold, IsBehind, IsMore, held_in, KeepsCopied};
+ghost use Rattle.om_following.specs.Following.{AreAllCopied, AreEmpty, AreTold, IsEmpty, IsFollowed, StaysFollowed};
+ghost use Rattle.om_following.specs.steps.Lanes.{AreMore, HasTold, HaveMore, HaveTold, IsBehind, IsMore, held_in, KeepsCopied, HaveToldIf};
 ghost use Rattle.om_report.specs.Harvests.{AreOwn, harvested};
 
 use crate::followed_outputs::FollowedOutputs;
@@ -164,7 +164,7 @@ fn tell_release<F: Follower>(
 ) -> bool
     ensures many { vec_len lanes.new ≡ vec_len lanes.old }
     ensures copied { KeepsCopied lanes.old.items lanes.new.items }
-    ensures told { IsTrue result → HaveTold F.Tells lanes.old.items follower.old lanes.new.items follower.new }
+    ensures told { HaveToldIf F.Tells result lanes.old.items follower.old lanes.new.items follower.new }
 {
     let Release { process, below } = release;
     let p = process.index();
@@ -182,7 +182,7 @@ fn tell_in_order<F: Follower>(
 ) -> bool
     ensures many { vec_len lanes.new ≡ vec_len lanes.old }
     ensures copied { KeepsCopied lanes.old.items lanes.new.items }
-    ensures told { IsTrue result → HaveTold F.Tells lanes.old.items follower.old lanes.new.items follower.new }
+    ensures told { HaveToldIf F.Tells result lanes.old.items follower.old lanes.new.items follower.new }
 {
     for release in releases {
         if !tell_release(follower, lanes, *release) {
@@ -197,7 +197,7 @@ fn tell_rest<F: Follower>(follower: &mut F, lanes: &mut Vec<FollowedOutputs>) ->
     requires { vec_len lanes.old ≤ MAX_PROCESSES }
     ensures many { vec_len lanes.new ≡ vec_len lanes.old }
     ensures copied { KeepsCopied lanes.old.items lanes.new.items }
-    ensures told { IsTrue result → HaveTold F.Tells lanes.old.items follower.old lanes.new.items follower.new }
+    ensures told { HaveToldIf F.Tells result lanes.old.items follower.old lanes.new.items follower.new }
     ensures all { IsTrue result → AreTold lanes.new.items }
 {
     for p in 0..lanes.len() {
@@ -218,7 +218,7 @@ fn tell_all<F: Follower>(
     requires { vec_len lanes.old ≤ MAX_PROCESSES }
     ensures many { vec_len lanes.new ≡ vec_len lanes.old }
     ensures copied { KeepsCopied lanes.old.items lanes.new.items }
-    ensures told { IsTrue result → HaveTold F.Tells lanes.old.items follower.old lanes.new.items follower.new }
+    ensures told { HaveToldIf F.Tells result lanes.old.items follower.old lanes.new.items follower.new }
     ensures all { IsTrue result → AreTold lanes.new.items }
 {
     if !tell_in_order(follower, lanes, releases) {
@@ -293,8 +293,8 @@ impl<'a, K: Naming, F: Follower> Following<'a, K, F> {
         alloc: Global,
         shared: &Shared<K>,
     ) -> (Following<'a, K, F>, Vec<Release>)
-        ensures followed { (start : F) → IsFollowed F.Tells K.OverClean K.programs K.cell.n self.entry.front.vec start self.entry.lanes.items self.entry.fault self.entry.follower
-            → IsFollowed F.Tells K.OverClean K.programs K.cell.n result.0.front.vec start result.0.lanes.items result.0.fault result.0.follower }
+        ensures followed { StaysFollowed F.Tells K.OverClean K.programs K.cell.n self.entry.front.vec self.entry.lanes.items self.entry.fault self.entry.follower
+            result.0.front.vec result.0.lanes.items result.0.fault result.0.follower }
     {
         let Following {
             herald,
@@ -322,8 +322,8 @@ impl<'a, K: Naming, F: Follower> Following<'a, K, F> {
 
     // Tells of all that is there.
     fn tell(self, releases: &[Release]) -> Following<'a, K, F>
-        ensures followed { (start : F) → IsFollowed F.Tells K.OverClean K.programs K.cell.n self.entry.front.vec start self.entry.lanes.items self.entry.fault self.entry.follower
-            → IsFollowed F.Tells K.OverClean K.programs K.cell.n result.front.vec start result.lanes.items result.fault result.follower }
+        ensures followed { StaysFollowed F.Tells K.OverClean K.programs K.cell.n self.entry.front.vec self.entry.lanes.items self.entry.fault self.entry.follower
+            result.front.vec result.lanes.items result.fault result.follower }
         ensures all { result.fault ≡ None → AreTold result.lanes.items }
         ensures copied { map (λ lane. lane.copied) result.lanes.items ≡ map (λ lane. lane.copied) self.entry.lanes.items }
         ensures fault { result.fault ≡ None → self.entry.fault ≡ None }
@@ -350,8 +350,8 @@ impl<'a, K: Naming, F: Follower> Following<'a, K, F> {
 
     /// Tells of what was released by now, in the order in which it was. The lock is held only to copy what is new.
     pub fn look<R: Wait>(self, rt: &R, alloc: Global, shared: &Shared<K>) -> Following<'a, K, F>
-        ensures followed { (start : F) → IsFollowed F.Tells K.OverClean K.programs K.cell.n self.entry.front.vec start self.entry.lanes.items self.entry.fault self.entry.follower
-            → IsFollowed F.Tells K.OverClean K.programs K.cell.n result.front.vec start result.lanes.items result.fault result.follower }
+        ensures followed { StaysFollowed F.Tells K.OverClean K.programs K.cell.n self.entry.front.vec self.entry.lanes.items self.entry.fault self.entry.follower
+            result.front.vec result.lanes.items result.fault result.follower }
         ensures all { result.fault ≡ None → AreTold result.lanes.items }
     {
         if self.fault == Some(FollowFault::Unwanted) {
@@ -371,8 +371,8 @@ impl<'a, K: Naming, F: Follower> Following<'a, K, F> {
     ) -> (Following<'a, K, F>, Vec<Release>)
         requires own { AreOwn harvests.items }
         requires each { length harvests.items ≡ K.cell.n }
-        ensures followed { (start : F) → IsFollowed F.Tells K.OverClean K.programs K.cell.n self.entry.front.vec start self.entry.lanes.items self.entry.fault self.entry.follower
-            → IsFollowed F.Tells K.OverClean K.programs K.cell.n result.0.front.vec start result.0.lanes.items result.0.fault result.0.follower }
+        ensures followed { StaysFollowed F.Tells K.OverClean K.programs K.cell.n self.entry.front.vec self.entry.lanes.items self.entry.fault self.entry.follower
+            result.0.front.vec result.0.lanes.items result.0.fault result.0.follower }
         ensures all { result.0.fault ≡ None → AreAllCopied (harvested harvests.items) result.0.lanes.items }
     {
         let Following {
@@ -411,8 +411,8 @@ impl<'a, K: Naming, F: Follower> Following<'a, K, F> {
     ) -> Following<'a, K, F>
         requires own { AreOwn harvests.items }
         requires each { length harvests.items ≡ K.cell.n }
-        ensures followed { (start : F) → IsFollowed F.Tells K.OverClean K.programs K.cell.n self.entry.front.vec start self.entry.lanes.items self.entry.fault self.entry.follower
-            → IsFollowed F.Tells K.OverClean K.programs K.cell.n result.front.vec start result.lanes.items result.fault result.follower }
+        ensures followed { StaysFollowed F.Tells K.OverClean K.programs K.cell.n self.entry.front.vec self.entry.lanes.items self.entry.fault self.entry.follower
+            result.front.vec result.lanes.items result.fault result.follower }
         ensures all { result.fault ≡ None → AreTold result.lanes.items }
         ensures brought { result.fault ≡ None → AreAllCopied (harvested harvests.items) result.lanes.items }
     {
@@ -431,8 +431,8 @@ impl<'a, K: Naming, F: Follower> Following<'a, K, F> {
         shared: &Shared<K>,
         n: usize,
     ) -> Following<'a, K, F>
-        ensures { (start : F) → IsFollowed F.Tells K.OverClean K.programs K.cell.n self.entry.front.vec start self.entry.lanes.items self.entry.fault self.entry.follower
-            → IsFollowed F.Tells K.OverClean K.programs K.cell.n result.front.vec start result.lanes.items result.fault result.follower }
+        ensures { StaysFollowed F.Tells K.OverClean K.programs K.cell.n self.entry.front.vec self.entry.lanes.items self.entry.fault self.entry.follower
+            result.front.vec result.lanes.items result.fault result.follower }
     {
         let mut following = self;
         for _ in rt.forever() {

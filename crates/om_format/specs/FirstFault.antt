@@ -8,8 +8,7 @@ use Rattle.om_format.specs.Formats.{Size, bytes_in, width, Format, end, field}
 -- so many numbers of one size that stand at the front
 abbrev pub values_at : Size → ℕ → List ℕ → List ℕ
 values_at size zero bytes = []
-values_at size (suc count) bytes =
-    from_le_bytes (width size) (take (bytes_in size) bytes) ∷ values_at size count (drop (bytes_in size) bytes)
+values_at size (suc count) bytes = from_le_bytes (width size) (take (bytes_in size) bytes) ∷ values_at size count (drop (bytes_in size) bytes)
 
 -- The first fault of the bytes, whose first is at this offset: the first field from the left that is not whole, or whole
 -- and forbidden; where there is none, the bytes after the last field.

@@ -42,8 +42,7 @@ any value = true
 
 -- a field of one number, with its own fault
 abbrev pub number_or : (ℕ → DecodeError) → Size → (ℕ → Bool) → (ℕ → Format) → Format
-number_or fault size allowed behind =
-    field size 1 (λ values. allowed (slice_index values 0)) fault (λ values. behind (slice_index values 0))
+number_or fault size allowed behind = field size 1 (λ values. allowed (slice_index values 0)) fault (λ values. behind (slice_index values 0))
 
 -- a field of one number
 abbrev pub number : Size → (ℕ → Bool) → (ℕ → Format) → Format

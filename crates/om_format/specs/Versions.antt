@@ -30,14 +30,10 @@ is_version number = number == version_number V1 || number == version_number V2
 abbrev pub version_of : ℕ → Version
 version_of number = if number == version_number V1 then V1 else V2
 
--- the greatest number of processes
-abbrev pub most_processes : Version → ℕ
-most_processes V1 = MAX_PROCESSES_OF_VERSION_1
-most_processes V2 = MAX_PROCESSES
-
 -- the numbers of processes
 abbrev pub is_cluster_size : Version → ℕ → Bool
-is_cluster_size version n = nat_le 1 n && nat_le n (most_processes version)
+is_cluster_size V1 n = nat_le 1 n && nat_le n MAX_PROCESSES_OF_VERSION_1
+is_cluster_size V2 n = nat_le 1 n && nat_le n MAX_PROCESSES
 
 -- the memory: all of its bytes, or the pages that are not all zero
 unfoldable pub memory_in : Version → ℕ → Format → Format

@@ -8,6 +8,7 @@ ghost use Rattle.om_format.specs.steps.Telling.{Tells};
 ghost use Rattle.om_pages.specs.Pages.{page_count, page_size};
 ghost use Rattle.om_format.specs.steps.CheckpointReading.{next_page_at, pages_at, memory_at, before_memory_at};
 ghost use Rattle.om_format.specs.declared.version.Version.TheVariants.{V2};
+ghost use Rattle.om_format.specs.steps.Reading.{LeavesBehind};
 
 use crate::error::DecodeError;
 use crate::memory::MemoryBytes;
@@ -58,7 +59,7 @@ fn pages_at<'a>(
     ensures exact { Gives (λ x. (x.value.items, x.offset, x.rest.now)) result
         (pages_at size 0 count offset bytes.now) }
     ensures size { IfOk result (λ x. length x.value.items ≡ size) }
-    ensures left { IfOk result (λ x. x.offset + length x.rest.now ≡ offset + length bytes.now) }
+    ensures left { IfOk result (λ x. LeavesBehind offset bytes.now x.offset x.rest.now) }
 {
     let mut value = Vec::with_capacity(alloc, size)?;
     let mut low = 0;
@@ -95,7 +96,7 @@ fn counted_at<'a>(
     ensures before { IfOk result (λ _. IsOk (before_memory_at V2 size offset bytes.now)) }
     ensures memory { IfErr result (λ e. e ≡ DecodeError.Memory → IsOk (before_memory_at V2 size offset bytes.now)) }
     ensures size { IfOk result (λ x. length x.value.items ≡ size) }
-    ensures left { IfOk result (λ x. x.offset + length x.rest.now ≡ offset + length bytes.now) }
+    ensures left { IfOk result (λ x. LeavesBehind offset bytes.now x.offset x.rest.now) }
 {
     let (count, rest) = u16_at(bytes)?;
     let count = count as usize;
@@ -120,7 +121,7 @@ pub(crate) fn memory_at<'a>(
         (memory_at version size offset bytes.now) }
     ensures before { IfOk result (λ _. IsOk (before_memory_at version size offset bytes.now)) }
     ensures memory { IfErr result (λ e. e ≡ DecodeError.Memory → IsOk (before_memory_at version size offset bytes.now)) }
-    ensures left { IfOk result (λ x. x.offset + length x.rest.now ≡ offset + length bytes.now) }
+    ensures left { IfOk result (λ x. LeavesBehind offset bytes.now x.offset x.rest.now) }
 {
     match version {
         Version::V1 => {

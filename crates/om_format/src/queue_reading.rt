@@ -5,6 +5,7 @@ ghost use Rattle.om_format.specs.Formats.{four, eight};
 ghost use Rattle.om_format.specs.Outcomes.{Gives};
 ghost use Rattle.om_format.specs.steps.CheckpointReading.{entry_at, entries_at, queue_at, queues_at};
 ghost use Rattle.om_format.specs.Queues.{queue_record};
+ghost use Rattle.om_format.specs.steps.Reading.{LeavesBehind};
 
 use crate::body::Body;
 use crate::error::DecodeError;
@@ -23,7 +24,7 @@ fn entry_at<'a>(
 ) -> Result<Taken<'a, QueueEntry>, DecodeError>
     requires room { offset + length bytes.now < 2 ^ 64 }
     ensures exact { Gives (λ x. (x.value, x.offset, x.rest.now)) result (entry_at newest low offset bytes.now) }
-    ensures left { IfOk result (λ x. x.offset + length x.rest.now ≡ offset + length bytes.now) }
+    ensures left { IfOk result (λ x. LeavesBehind offset bytes.now x.offset x.rest.now) }
 {
     let (interval, rest) = u32_at(bytes)?;
     if interval < low || interval > newest {
@@ -49,7 +50,7 @@ fn entries_at<'a>(
     requires room { offset + length bytes.now < 2 ^ 64 }
     ensures exact { Gives (λ x. (x.value.items, x.offset, x.rest.now)) result
         (entries_at newest 0 count offset bytes.now) }
-    ensures left { IfOk result (λ x. x.offset + length x.rest.now ≡ offset + length bytes.now) }
+    ensures left { IfOk result (λ x. LeavesBehind offset bytes.now x.offset x.rest.now) }
 {
     let mut value = Vec::new(alloc);
     let mut low = 0;
@@ -81,7 +82,7 @@ fn messages_at<'a>(
     requires room { offset + length bytes.now < 2 ^ 64 }
     ensures exact { Gives (λ x. (queue_record x.value, x.offset, x.rest.now)) result
         (queue_at four newest stop offset bytes.now) }
-    ensures left { IfOk result (λ x. x.offset + length x.rest.now ≡ offset + length bytes.now) }
+    ensures left { IfOk result (λ x. LeavesBehind offset bytes.now x.offset x.rest.now) }
 {
     let (first, rest) = u32_at(bytes)?;
     if first > stop {
@@ -137,7 +138,7 @@ pub(crate) fn queues_at<'a>(
     requires room { offset + length bytes.now < 2 ^ 64 }
     ensures exact { Gives (λ x. (map queue_record x.value.items, x.offset, x.rest.now)) result
         (queues_at newest stops.now offset bytes.now) }
-    ensures left { IfOk result (λ x. x.offset + length x.rest.now ≡ offset + length bytes.now) }
+    ensures left { IfOk result (λ x. LeavesBehind offset bytes.now x.offset x.rest.now) }
 {
     let mut value = Vec::new(alloc);
     let mut offset = offset;

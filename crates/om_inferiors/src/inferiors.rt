@@ -2,7 +2,7 @@
 
 ghost use Rattle.std.specs.Prelude.{◌≡◌, ◌==◌, ◌<◌, ◌⊎◌, IfOk, IfSome, OnErr, None, false, length, position, string_bytes};
 ghost use Rattle.om_requests.specs.Groups.{group_request_of};
-ghost use Rattle.om_debug.specs.Told.{clear_break, clear_watch, is_last, is_leaving, set_break, set_watch, text_of, with_breaks, with_watches};
+ghost use Rattle.om_debug.specs.Told.{clear_break, clear_watch, is_last, is_leaving, set_break, set_watch, text_of, with_breaks, with_watches, ReadsNothing, IsNotLast};
 ghost use Rattle.om_debug.specs.declared.stop.Stop.TheVariants.{Paused};
 ghost use Rattle.om_inferiors.specs.Told.{IsGroupAnswered, IsGroupBack, IsGroupEnd, IsGroupOn, IsLeft, IsRefused, IsSet, IsTold, asked_group, group_stop_text, is_there, member_of, memory_of, number_of, place_of_inferior, registers_of, thread_text, threads_text};
 
@@ -46,7 +46,7 @@ fn bytes(alloc: Global, text: &str) -> Result<Vec<u8>, AllocError>
 
 fn text(alloc: Global, text: &str) -> Result<Reply, AllocError>
     ensures text { IfOk result (λ told. text_of told ≡ text.now) }
-    ensures last { IfOk result (λ told. is_last told ≡ false) }
+    ensures last { IfOk result IsNotLast }
 {
     Ok(Reply::Text(bytes(alloc, text)?))
 }
@@ -110,7 +110,7 @@ impl Inferiors {
     ) -> Result<Reply, PlayFault>
         ensures answered { IfOk result (λ told. IsGroupAnswered (group_request_of packet.now) self.old told self.new) }
         ensures last { IfOk result (λ told. IsGroupEnd (group_request_of packet.now) told) }
-        ensures unread { R.remaining reader.new ≡ R.remaining reader.old }
+        ensures unread { ReadsNothing R.remaining reader.old reader.new }
     {
         let request = group_request_of(alloc, packet)?;
         self.answer_to(alloc, request, reader)
@@ -124,7 +124,7 @@ impl Inferiors {
     ) -> Result<Reply, PlayFault>
         ensures answered { IfOk result (λ told. IsGroupAnswered request self.old told self.new) }
         ensures last { IfOk result (λ told. IsGroupEnd request told) }
-        ensures unread { R.remaining reader.new ≡ R.remaining reader.old }
+        ensures unread { ReadsNothing R.remaining reader.old reader.new }
     {
         match request {
             GroupRequest::Resume(how, whom) => self.resume(alloc, how, whom, reader),
@@ -148,7 +148,7 @@ impl Inferiors {
     ) -> Result<Reply, PlayFault>
         ensures answered { IfOk result (λ told. IsGroupAnswered (GroupRequest.Other request) self.old told self.new) }
         ensures last { IfOk result (λ told. is_last told ≡ is_leaving request) }
-        ensures unread { R.remaining reader.new ≡ R.remaining reader.old }
+        ensures unread { ReadsNothing R.remaining reader.old reader.new }
     {
         match request {
             Request::BackStep => self.go_back(alloc, true, reader),
@@ -167,7 +167,7 @@ impl Inferiors {
     /// Tells that the processes stand where they stand, as one who asked for a stop is told. Refused only where memory ran out.
     pub fn interrupted(&self, alloc: Global) -> Result<Reply, AllocError>
         ensures paused { IfOk result (λ told. text_of told ≡ group_stop_text self.now.focus Paused) }
-        ensures last { IfOk result (λ told. is_last told ≡ false) }
+        ensures last { IfOk result IsNotLast }
     {
         Ok(Reply::Text(group_stop_text(alloc, self.focus, Stop::Paused)?.into_bytes()))
     }
@@ -218,8 +218,8 @@ impl Inferiors {
         reader: &mut R,
     ) -> Result<Reply, PlayFault>
         ensures answered { IfOk result (λ told. IsGroupOn self.old told self.new ⊎ IsRefused self.old told self.new) }
-        ensures last { IfOk result (λ told. is_last told ≡ false) }
-        ensures unread { R.remaining reader.new ≡ R.remaining reader.old }
+        ensures last { IfOk result IsNotLast }
+        ensures unread { ReadsNothing R.remaining reader.old reader.new }
     {
         if is_alone(whom, self.members.len()) {
             return Ok(text(alloc, ALONE)?);
@@ -241,8 +241,8 @@ impl Inferiors {
         reader: &mut R,
     ) -> Result<Reply, PlayFault>
         ensures answered { IfOk result (λ told. IsGroupBack self.old told self.new ⊎ IsRefused self.old told self.new) }
-        ensures last { IfOk result (λ told. is_last told ≡ false) }
-        ensures unread { R.remaining reader.new ≡ R.remaining reader.old }
+        ensures last { IfOk result IsNotLast }
+        ensures unread { ReadsNothing R.remaining reader.old reader.new }
     {
         let number = self.going.unwrap_or(self.focus);
         let Some(place) = place_of(&self.members, number) else {
@@ -254,7 +254,7 @@ impl Inferiors {
 
     fn select(&mut self, alloc: Global, whom: Whom) -> Result<Reply, AllocError>
         ensures answered { IfOk result (λ told. IsGroupAnswered (GroupRequest.Select whom) self.old told self.new) }
-        ensures last { IfOk result (λ told. is_last told ≡ false) }
+        ensures last { IfOk result IsNotLast }
     {
         if !self.is_there(whom) {
             return text(alloc, ERROR);
@@ -270,7 +270,7 @@ impl Inferiors {
 
     fn select_going(&mut self, alloc: Global, whom: Whom) -> Result<Reply, AllocError>
         ensures answered { IfOk result (λ told. IsGroupAnswered (GroupRequest.SelectGoing whom) self.old told self.new) }
-        ensures last { IfOk result (λ told. is_last told ≡ false) }
+        ensures last { IfOk result IsNotLast }
     {
         if !self.is_there(whom) {
             return text(alloc, ERROR);
@@ -287,7 +287,7 @@ impl Inferiors {
     // Tells whether a thread is there, and takes it for the one that is meant by a step back.
     fn name(&mut self, alloc: Global, whom: Whom) -> Result<Reply, AllocError>
         ensures answered { IfOk result (λ told. IsGroupAnswered (GroupRequest.IsAlive whom) self.old told self.new) }
-        ensures last { IfOk result (λ told. is_last told ≡ false) }
+        ensures last { IfOk result IsNotLast }
     {
         if !self.is_there(whom) {
             return text(alloc, ERROR);
@@ -319,7 +319,7 @@ impl Inferiors {
 
     fn set_break(&mut self, alloc: Global, address: u32) -> Result<Reply, AllocError>
         ensures set { IfOk result (λ told. IsSet self.old (λ d. with_breaks d (set_break address d.breaks)) told self.new) }
-        ensures last { IfOk result (λ told. is_last told ≡ false) }
+        ensures last { IfOk result IsNotLast }
     {
         let Some(place) = place_of(&self.members, self.selected) else {
             return text(alloc, ERROR);
@@ -332,7 +332,7 @@ impl Inferiors {
 
     fn clear_break(&mut self, alloc: Global, address: u32) -> Result<Reply, AllocError>
         ensures set { IfOk result (λ told. IsSet self.old (λ d. with_breaks d (clear_break address d.breaks)) told self.new) }
-        ensures last { IfOk result (λ told. is_last told ≡ false) }
+        ensures last { IfOk result IsNotLast }
     {
         let Some(place) = place_of(&self.members, self.selected) else {
             return text(alloc, ERROR);
@@ -345,7 +345,7 @@ impl Inferiors {
 
     fn set_watch(&mut self, alloc: Global, watch: Watch) -> Result<Reply, AllocError>
         ensures set { IfOk result (λ told. IsSet self.old (λ d. with_watches d (set_watch watch d.watches)) told self.new) }
-        ensures last { IfOk result (λ told. is_last told ≡ false) }
+        ensures last { IfOk result IsNotLast }
     {
         let Some(place) = place_of(&self.members, self.selected) else {
             return text(alloc, ERROR);
@@ -358,7 +358,7 @@ impl Inferiors {
 
     fn clear_watch(&mut self, alloc: Global, watch: Watch) -> Result<Reply, AllocError>
         ensures set { IfOk result (λ told. IsSet self.old (λ d. with_watches d (clear_watch watch d.watches)) told self.new) }
-        ensures last { IfOk result (λ told. is_last told ≡ false) }
+        ensures last { IfOk result IsNotLast }
     {
         let Some(place) = place_of(&self.members, self.selected) else {
             return text(alloc, ERROR);

@@ -3,7 +3,7 @@
 ghost use Rattle.std.specs.Prelude.{◌≡◌, ◌++◌, ◌<◌, IfOk, OnOk, false, length, position, slice_get, string_bytes};
 ghost use Rattle.std.specs.List.{flat_map};
 ghost use Rattle.om_debug.specs.Monitor.{IsAtEvent, IsSaid, time_line};
-ghost use Rattle.om_debug.specs.Told.{is_last};
+ghost use Rattle.om_debug.specs.Told.{is_last, IsNotLast};
 ghost use Rattle.om_inferiors.specs.Monitor.{AreSentTo, IsGroupCommanded, IsGroupSentTo, group_events_text, group_where_text, is_under_way, lead_place, member_line, number_text, time_of};
 ghost use Rattle.om_inferiors.specs.steps.Sending.{IsSentAt};
 
@@ -36,7 +36,7 @@ fn all_to_event(all: &mut [Inferior], event: usize) -> Result<(), PlayFault>
 // Makes a text for the user, whose bytes are told in hexadecimal.
 fn said(alloc: Global, text: &str) -> Result<Reply, AllocError>
     ensures said { IfOk result (λ told. IsSaid text.now told) }
-    ensures last { IfOk result (λ told. is_last told ≡ false) }
+    ensures last { IfOk result IsNotLast }
 {
     Ok(Reply::Text(hex::encode(alloc, text.as_bytes())?.into_bytes()))
 }
@@ -86,7 +86,7 @@ impl Inferiors {
     // Does what a command of the user says, and tells it.
     pub(crate) fn commanded(&mut self, alloc: Global, command: Command) -> Result<Reply, PlayFault>
         ensures commanded { IfOk result (λ told. IsGroupCommanded command self.old told self.new) }
-        ensures last { IfOk result (λ told. is_last told ≡ false) }
+        ensures last { IfOk result IsNotLast }
     {
         match command {
             Command::Where => self.said_where(alloc),
@@ -111,7 +111,7 @@ impl Inferiors {
     // Returns where time and the processes stand, as it is told.
     fn said_where(&self, alloc: Global) -> Result<Reply, PlayFault>
         ensures said { IfOk result (λ told. IsSaid (group_where_text self.now.members.items) told) }
-        ensures last { IfOk result (λ told. is_last told ≡ false) }
+        ensures last { IfOk result IsNotLast }
     {
         let text = self.told_where(alloc)?;
         Ok(said(alloc, &text)?)

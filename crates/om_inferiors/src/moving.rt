@@ -5,6 +5,7 @@ ghost use Rattle.om_timeline.specs.Timeline.{IsUpTo};
 ghost use Rattle.om_inferiors.specs.declared.inferior.Inferior.{Inferior};
 ghost use Rattle.om_inferiors.specs.Moving.{AreBack, AreOn, IsLastOf, IsNoStepBack, IsRunBackAt, IsStepBackAt, StandsAt};
 ghost use Rattle.om_inferiors.specs.steps.Lasting.{OthersStay, IsBehindAt, IsLastUpTo, IsLaterOf, IsLookedBackAt};
+ghost use Rattle.om_debug.specs.Told.{ReadsNothing};
 
 use crate::inferior::Inferior;
 use om_debug::{Stop, Wish};
@@ -207,7 +208,7 @@ pub(crate) fn forward<R: Wish>(
     requires { who < length all.old }
     ensures on { OnOk result (AreOn all.old all.new) }
     ensures stands { IfOk result (λ s. StandsAt all.new s.place s.stop) }
-    ensures unread { R.remaining reader.new ≡ R.remaining reader.old }
+    ensures unread { ReadsNothing R.remaining reader.old reader.new }
 {
     let paused = Stopped {
         place: who,
@@ -233,7 +234,7 @@ fn run_back_at<R: Wish>(
     ensures back { AreBack all.old all.new }
     ensures told { IfOk result (IsRunBackAt all.old all.new place) }
     ensures others { OthersStay place all.old all.new }
-    ensures unread { R.remaining reader.new ≡ R.remaining reader.old }
+    ensures unread { ReadsNothing R.remaining reader.old reader.new }
 {
     let inferior = &mut all[place];
     inferior.debugger.run_back(reader)
@@ -259,7 +260,7 @@ fn look_back_at<R: Wish>(
     ensures back { AreBack all.old all.new }
     ensures told { IfOk result (IsLookedBackAt all.old all.new place event) }
     ensures others { OthersStay place all.old all.new }
-    ensures unread { R.remaining reader.new ≡ R.remaining reader.old }
+    ensures unread { ReadsNothing R.remaining reader.old reader.new }
 {
     let inferior = &mut all[place];
     inferior.debugger.look_back(event, reader)
@@ -311,7 +312,7 @@ pub(crate) fn backward<R: Wish>(
     ensures back { AreBack all.old all.new }
     ensures last { IfOk result (λ s. IsLastOf all.old all.new s.place s.stop ⊎ IsNoStepBack all.old all.new s.place s.stop) }
     ensures within { IfOk result (λ s. s.place < length all.new) }
-    ensures unread { R.remaining reader.new ≡ R.remaining reader.old }
+    ensures unread { ReadsNothing R.remaining reader.old reader.new }
 {
     if steps {
         match step_back_at(all, who)? {
@@ -343,7 +344,7 @@ fn last_with<R: Wish>(
     ensures last { IfOk result (λ s. (mids : List Inferior) × IsLastUpTo all.old mids first.place first.stop (length all.old) s.place s.stop
         × (slice_get all.new s.place ≡ slice_get mids s.place)) }
     ensures within { IfOk result (λ s. s.place < length all.new) }
-    ensures unread { R.remaining reader.new ≡ R.remaining reader.old }
+    ensures unread { ReadsNothing R.remaining reader.old reader.new }
 {
     let last = last_of(all, first, reader)?;
     stand_with(all, last.place)?;
@@ -361,7 +362,7 @@ fn last_of<R: Wish>(
     ensures back { AreBack all.old all.new }
     ensures last { IfOk result (λ s. IsLastUpTo all.old all.new first.place first.stop (length all.old) s.place s.stop) }
     ensures within { IfOk result (λ s. s.place < length all.new) }
-    ensures unread { R.remaining reader.new ≡ R.remaining reader.old }
+    ensures unread { ReadsNothing R.remaining reader.old reader.new }
 {
     let mut last = first;
     for place in 0..all.len() {
@@ -394,7 +395,7 @@ fn later_of<R: Wish>(
     ensures back { AreBack all.old all.new }
     ensures later { IfOk result (λ s. IsLaterOf all.old all.new last.place last.stop place s.place s.stop) }
     ensures others { OthersStay place all.old all.new }
-    ensures unread { R.remaining reader.new ≡ R.remaining reader.old }
+    ensures unread { ReadsNothing R.remaining reader.old reader.new }
 {
     let event = event_at(all, last.place);
     let Some(stop) = look_back_at(all, place, event, reader)? else {

@@ -6,6 +6,7 @@ ghost use Rattle.std.specs.Io.KnownBytes.{Appends, Consumes, IsAtEnd};
 ghost use Rattle.om_packets.specs.Packets.{packet_text};
 ghost use Rattle.om_inferiors.specs.Serving.{IsPacketTaken, SessionState, Takes, TakesByte, if_acked, is_over, outcome_text, pause_text, session};
 ghost use Rattle.om_inferiors.specs.steps.Serving.{AreRead, AreTaken, session_of};
+ghost use Rattle.om_debug.specs.Told.{ReadsNothing};
 
 use crate::shown::Shown;
 use om_debug::{Reply, Wish};
@@ -198,7 +199,7 @@ impl Session {
         reader: &mut R,
         writer: &mut W,
     ) -> Result<bool, ServeError>
-        ensures unread { R.remaining reader.new ≡ R.remaining reader.old }
+        ensures unread { ReadsNothing R.remaining reader.old reader.new }
         ensures taken { IfOk result (λ over. AreTaken (session_of self.old) bytes.now (W.contents writer.old) (W.contents writer.new) over (session_of self.new)) }
     {
         for byte in bytes {
@@ -215,7 +216,7 @@ impl Session {
         reader: &mut R,
         writer: &mut W,
     ) -> Result<bool, ServeError>
-        ensures unread { R.remaining reader.new ≡ R.remaining reader.old }
+        ensures unread { ReadsNothing R.remaining reader.old reader.new }
         ensures taken { IfOk result (λ over. (written : List ℕ) × TakesByte (session_of self.old) byte written over (session_of self.new)
             × Appends (W.contents writer.old) (W.contents writer.new) written) }
     {
@@ -258,7 +259,7 @@ impl Session {
         reader: &mut R,
         writer: &mut W,
     ) -> Result<bool, ServeError>
-        ensures unread { R.remaining reader.new ≡ R.remaining reader.old }
+        ensures unread { ReadsNothing R.remaining reader.old reader.new }
         ensures taken { IfOk result (λ over. (written : List ℕ) × IsPacketTaken (session_of self.old) self.old.decoder written over (session_of self.new)
             × Appends (W.contents writer.old) (W.contents writer.new) written) }
     {

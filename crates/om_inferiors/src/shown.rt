@@ -1,7 +1,7 @@
 //! One process of a record, or all.
 
 ghost use Rattle.std.specs.Prelude.{◌≡◌, IfOk, false};
-ghost use Rattle.om_debug.specs.Told.{is_last, text_of};
+ghost use Rattle.om_debug.specs.Told.{is_last, text_of, ReadsNothing, IsNotLast};
 ghost use Rattle.om_inferiors.specs.Serving.{IsShownOutcome, pause_text};
 
 use crate::inferiors::Inferiors;
@@ -28,7 +28,7 @@ impl Shown {
         reader: &mut R,
     ) -> Result<Reply, PlayFault>
         ensures outcome { IsShownOutcome packet.now self.old result self.new }
-        ensures unread { R.remaining reader.new ≡ R.remaining reader.old }
+        ensures unread { ReadsNothing R.remaining reader.old reader.new }
     {
         match self {
             Shown::One(debugger) => debugger.answer(packet, reader),
@@ -39,7 +39,7 @@ impl Shown {
     /// Tells that what is shown stands where it stands, as one who asked for a stop is told. Refused only where memory ran out.
     pub fn interrupted(&self, alloc: Global) -> Result<Reply, AllocError>
         ensures paused { IfOk result (λ told. text_of told ≡ pause_text self.now) }
-        ensures last { IfOk result (λ told. is_last told ≡ false) }
+        ensures last { IfOk result IsNotLast }
     {
         match self {
             Shown::One(debugger) => debugger.interrupted(),

@@ -22,23 +22,19 @@ jump_text name rd offset = name ++ codes " " ++ register rd ++ codes ", " ++ sig
 
 -- lw x1, 8(x2)
 unfoldable pub address_text : List ℕ → ℕ → ℤ → ℕ → List ℕ
-address_text name a imm base =
-    name ++ codes " " ++ register a ++ codes ", " ++ signed_decimal imm ++ codes "(" ++ register base ++ codes ")"
+address_text name a imm base = name ++ codes " " ++ register a ++ codes ", " ++ signed_decimal imm ++ codes "(" ++ register base ++ codes ")"
 
 -- addi x1, x0, 5
 unfoldable pub number_text : List ℕ → ℕ → ℕ → ℤ → List ℕ
-number_text name a b number =
-    name ++ codes " " ++ register a ++ codes ", " ++ register b ++ codes ", " ++ signed_decimal number
+number_text name a b number = name ++ codes " " ++ register a ++ codes ", " ++ register b ++ codes ", " ++ signed_decimal number
 
 -- add x1, x2, x3
 unfoldable pub registers_text : List ℕ → ℕ → ℕ → ℕ → List ℕ
-registers_text name a b c =
-    name ++ codes " " ++ register a ++ codes ", " ++ register b ++ codes ", " ++ register c
+registers_text name a b c = name ++ codes " " ++ register a ++ codes ", " ++ register b ++ codes ", " ++ register c
 
 -- fence x0, x0, 0xff
 unfoldable pub fence_text : List ℕ → ℕ → ℕ → ℕ → List ℕ
-fence_text name rd rs1 bits =
-    name ++ codes " " ++ register rd ++ codes ", " ++ register rs1 ++ codes ", " ++ hexadecimal bits
+fence_text name rd rs1 bits = name ++ codes " " ++ register rd ++ codes ", " ++ register rs1 ++ codes ", " ++ hexadecimal bits
 
 -- the text of an instruction
 abbrev pub text_of : Inst → List ℕ

@@ -1,7 +1,7 @@
 //! The fields of a word.
 
 ghost use Rattle.std.specs.Prelude.{◌≡◌, ◌*◌, ◌<◌, ◌≤◌, pos};
-ghost use Rattle.om_isa.specs.Words.{bits_of, sign_of, immediate_i, immediate_s, immediate_b, immediate_u, immediate_j};
+ghost use Rattle.om_isa.specs.Words.{bits_of, sign_of, immediate_i, immediate_s, immediate_b, immediate_j};
 
 use crate::fields::{FenceBits, Imm12, Off13, Off21, Reg, Shamt, Upper};
 
@@ -74,7 +74,7 @@ pub fn fence_bits(w: u32) -> FenceBits
 }
 
 pub fn upper(w: u32) -> Upper
-    ensures { immediate_u w ≡ 4096 * result }
+    ensures { result ≡ bits_of w 31 12 }
 {
     Upper {
         value: bits(w, 31, 12),

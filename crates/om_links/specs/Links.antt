@@ -23,6 +23,10 @@ pub record LinksState : Type 0 where
 abbrev pub KeepsEnds : LinksState → LinksState → Type 0
 KeepsEnds old new = new.ends ≡ old.ends
 
+-- whether all were put is as before
+abbrev pub KeepsHasPutAll : LinksState → LinksState → Type 0
+KeepsHasPutAll old new = new.has_put_all ≡ old.has_put_all
+
 -- what holds of the ends that a process has
 pub record AreLinks (l : EndsState) (puts : List Traffic) (takes : List Takings) (turn : ℕ) : Type 0 where
   pub own : l.own < l.n

@@ -7,7 +7,7 @@ ghost use Rattle.om_process.specs.Core.{cluster_size};
 ghost use Rattle.om_links.specs.Network.{ArePuts, AreTakes, IsNetwork};
 ghost use Rattle.om_links.specs.Wiring.{HasEnds};
 ghost use Rattle.om_links.specs.Dropping.{AreAllOrNone};
-ghost use Rattle.om_links.specs.Links.{KeepsEnds};
+ghost use Rattle.om_links.specs.Links.{KeepsEnds, KeepsHasPutAll};
 
 use crate::network::Ends;
 use crate::received::Received;
@@ -317,7 +317,7 @@ impl<'a> Links<'a> {
         ensures ends { KeepsEnds self.old self.new }
         ensures put { self.new.put ≡ self.old.put }
         ensures taken { self.new.taken ≡ self.old.taken }
-        ensures all { self.new.has_put_all ≡ self.old.has_put_all }
+        ensures all { KeepsHasPutAll self.old self.new }
         ensures behind { self.new.is_behind ≡ true }
     {
         self.next = [0; MAX_PROCESSES];
@@ -331,7 +331,7 @@ impl<'a> Links<'a> {
         ensures ends { KeepsEnds self.old self.new }
         ensures put { self.new.put ≡ self.old.put }
         ensures taken { self.new.taken ≡ self.old.taken }
-        ensures all { self.new.has_put_all ≡ self.old.has_put_all }
+        ensures all { KeepsHasPutAll self.old self.new }
         ensures behind { self.new.is_behind ≡ true }
     {
         let received = received_of(self.received, self.own);
@@ -474,7 +474,7 @@ impl<'a> Links<'a> {
         requires to { to < self.old.ends.n }
         ensures ends { KeepsEnds self.old self.new }
         ensures taken { self.new.taken ≡ self.old.taken }
-        ensures all { self.new.has_put_all ≡ self.old.has_put_all }
+        ensures all { KeepsHasPutAll self.old self.new }
         ensures behind { self.new.is_behind ≡ self.old.is_behind }
     {
         let place = to.index();
@@ -498,7 +498,7 @@ impl<'a> Links<'a> {
     pub fn take<R: Wait>(&mut self, rt: &R) -> Option<Taken>
         ensures ends { KeepsEnds self.old self.new }
         ensures put { self.new.put ≡ self.old.put }
-        ensures all { self.new.has_put_all ≡ self.old.has_put_all }
+        ensures all { KeepsHasPutAll self.old self.new }
         ensures behind { self.new.is_behind ≡ self.old.is_behind }
         ensures taken { IfSome result (λ _. self.new.taken ≡ min (self.old.taken + 1) u64.MAX) }
         ensures none { IfNone result (self.new ≡ self.old) }
@@ -523,7 +523,7 @@ impl<'a> Links<'a> {
     fn take_next<R: Wait>(&mut self, rt: &R) -> Option<Taken>
         ensures ends { KeepsEnds self.old self.new }
         ensures put { self.new.put ≡ self.old.put }
-        ensures all { self.new.has_put_all ≡ self.old.has_put_all }
+        ensures all { KeepsHasPutAll self.old self.new }
         ensures behind { self.new.is_behind ≡ self.old.is_behind }
         ensures taken { IfSome result (λ _. self.new.taken ≡ min (self.old.taken + 1) u64.MAX) }
         ensures none { IfNone result (self.new ≡ self.old) }
@@ -549,7 +549,7 @@ impl<'a> Links<'a> {
         requires { from < self.old.ends.n }
         ensures ends { KeepsEnds self.old self.new }
         ensures put { self.new.put ≡ self.old.put }
-        ensures all { self.new.has_put_all ≡ self.old.has_put_all }
+        ensures all { KeepsHasPutAll self.old self.new }
         ensures behind { self.new.is_behind ≡ self.old.is_behind }
         ensures taken { self.new.taken ≡ min (self.old.taken + 1) u64.MAX }
     {
@@ -572,7 +572,7 @@ impl<'a> Links<'a> {
     pub fn drain<R: Wait>(&mut self, rt: &R) -> bool
         ensures ends { KeepsEnds self.old self.new }
         ensures put { self.new.put ≡ self.old.put }
-        ensures all { self.new.has_put_all ≡ self.old.has_put_all }
+        ensures all { KeepsHasPutAll self.old self.new }
         ensures behind { self.new.is_behind ≡ self.old.is_behind }
         ensures some { result ≡ not (nat_eq self.new.taken self.old.taken) }
     {

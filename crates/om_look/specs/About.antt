@@ -7,5 +7,4 @@ use Rattle.om_look.specs.declared.about.TheConstants.{ABOUT_KIND, ABOUT_VERSION}
 
 -- process own of n, of this program
 abbrev pub about : ℕ → ℕ → Program → List ℕ
-about own n program =
-    ABOUT_KIND ∷ ABOUT_VERSION ∷ own ∷ n ∷ number_of_ext program.ext ∷ (to_le_bytes w32 program.size ++ program.image)
+about own n program = ABOUT_KIND ∷ ABOUT_VERSION ∷ own ∷ n ∷ number_of_ext program.ext ∷ (to_le_bytes w32 program.size ++ program.image)

@@ -57,5 +57,4 @@ IsReceiptLine row line =
 -- a line for each row, in order
 abbrev pub AreLines : {Row : Type 0} → (Row → List ℕ → Type 0) → List Row → List ℕ → Type 0
 AreLines IsLine [] text = text ≡ []
-AreLines IsLine (row ∷ rows) text =
-    (line : List ℕ) × (rest : List ℕ) × IsLine row line × AreLines IsLine rows rest × (text ≡ line ++ rest)
+AreLines IsLine (row ∷ rows) text = (line : List ℕ) × (rest : List ℕ) × IsLine row line × AreLines IsLine rows rest × (text ≡ line ++ rest)

@@ -15,5 +15,4 @@ AreApart low (span ∷ spans) = (low ≤ span.first) × (span.first < span.stop)
 
 -- a line for each range, with its first interval and its last
 abbrev pub spans_text : List Span → List ℕ
-spans_text spans =
-    flat_map (λ span. codes "replay " ++ decimal span.first ++ codes " to " ++ decimal (span.stop - 1) ++ 10 ∷ []) spans
+spans_text spans = flat_map (λ span. codes "replay " ++ decimal span.first ++ codes " to " ++ decimal (span.stop - 1) ++ 10 ∷ []) spans

@@ -72,8 +72,7 @@ with_output m p output = record m { outputs = slice_set m.outputs p (held_by m p
 
 -- the answer to an output of a process that is handed in, in a round and with a number, and the manager after it
 abbrev pub NotesOutput : ManagerState → ℕ → ℕ → ℕ → HeldOutput → Result OutputNote OutputError → ManagerState → Type 0
-NotesOutput old p round seq output (Ok kept.Known) new =
-    IsCurrent old p round × (slice_get (held_by old p) seq ≡ Some output) × (new ≡ old)
+NotesOutput old p round seq output (Ok kept.Known) new = IsCurrent old p round × (slice_get (held_by old p) seq ≡ Some output) × (new ≡ old)
 NotesOutput old p round seq output (Ok kept.Released) new =
     IsNext old p round seq output × (output.interval ≤ slice_index old.recovery p) × (new ≡ with_output old p output)
 NotesOutput old p round seq output (Ok kept.Held) new =

@@ -63,8 +63,7 @@ pub data Changes (old new : ManagerState) : Type 0 where
 pub data GoesOn (old new : ManagerState) : Type 0 where
   stays : new.version ≡ old.version → new.round ≡ old.round → new.recovery ≡ old.recovery
       → (old.gathering ≡ None → new.gathering ≡ None) → GoesOn old new
-  rises : Changes old new → new.version ≡ old.version + 1 → old.round ≤ new.round → IsBelow old.recovery new.recovery
-      → GoesOn old new
+  rises : Changes old new → new.version ≡ old.version + 1 → old.round ≤ new.round → IsBelow old.recovery new.recovery → GoesOn old new
 
 -- what was released of a process is still released, at the same numbers
 abbrev pub KeepsReleased : ManagerState → ManagerState → Type 0

@@ -66,8 +66,7 @@ stored Checkpoint c = checkpointed c
 -- what a store answered: it gained what was put there, or nothing, and then it was present only where one was there
 abbrev pub Gained : Batch → CoreState → Result (Unit {0}) StoreError → Content → Content → Type 0
 Gained kind c (Ok done) before after = HasGained kind c before after
-Gained Log c (Err fault) before after =
-    (after ≡ before) × (fault ≡ Present → IsTaken before.receipts (first_logged c) (length c.log))
+Gained Log c (Err fault) before after = (after ≡ before) × (fault ≡ Present → IsTaken before.receipts (first_logged c) (length c.log))
 Gained (First k) c (Err fault) before after =
     (after ≡ before) × (fault ≡ Present → IsTaken before.receipts (first_logged c) (length (take k c.log)))
 Gained Checkpoint c (Err fault) before after = (after ≡ before) × (fault ≡ Present → IsSome (get before.checkpoints c.now.interval))
@@ -177,5 +176,4 @@ pub record HasComeBack {S : Type 0} (content : S → Content) (failed : S → �
 pub record StaysDown {S : Type 0} (content : S → Content) (failed : S → ℕ) (is_clean : S → Bool) (IsSound : S → Type 0)
     (who : Down) (verdict : Verdict) (old : Member S) (fault : ReplayFault) (new : Member S) : Type 0 where
   pub others : new ≡ record old { store = new.store }
-  pub called : WasCalled content failed is_clean IsSound (fault ≡ replays.Fault) old.store new.store
-      (IsRolledBack who verdict (Err fault))
+  pub called : WasCalled content failed is_clean IsSound (fault ≡ replays.Fault) old.store new.store (IsRolledBack who verdict (Err fault))

@@ -1,5 +1,5 @@
 -- What holds of a process and its store.
-use Rattle.std.specs.Prelude.{◌≡◌, ℕ, List, Bool, IsTrue, Some}
+use Rattle.std.specs.Prelude.{◌≡◌, ℕ, List, Bool, IsTrue, Some, Result, OnErr}
 use Rattle.std.specs.FinMap.{get}
 use Rattle.om_format.specs.Checkpoints.{CheckpointRecord, IsSpelled}
 use Rattle.om_stable.specs.Content.{Content}
@@ -59,3 +59,15 @@ AreAlwaysClean is_clean = (store : _) → IsTrue (is_clean store)
 abbrev pub TakesFrom : {S : Type 0} → (ℕ → ℕ → HeldOutput → Type 0) → (S → Bool) → Member → Type 0
 TakesFrom Takes is_clean m = (seq : ℕ) (output : HeldOutput)
     → (AreAlwaysClean is_clean → IsOutputOf m.program m.own m.n seq output) → Takes m.own seq output
+
+-- it is one of the same processes, with its program
+abbrev pub KeepsMember : NodeState → NodeState → Type 0
+KeepsMember old new = new.member ≡ old.member
+
+-- where a call is refused, it runs as it did
+abbrev pub LeavesCore : {A E : Type 0} → NodeState → Result A E → NodeState → Type 0
+LeavesCore old result new = OnErr result (new.core ≡ old.core)
+
+-- what runs over clean stores has stores of such a kind
+abbrev pub HasCleanStores : {S : Type 0} → Type 0 → (S → Bool) → Type 0
+HasCleanStores over_clean is_clean = over_clean → AreAlwaysClean is_clean

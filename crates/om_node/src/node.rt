@@ -17,7 +17,7 @@ ghost use Rattle.om_process.specs.Trims.{trimmed};
 ghost use Rattle.om_node.specs.Ends.{IsWholeRun};
 ghost use Rattle.om_stable.specs.Content.{nothing};
 ghost use Rattle.om_node.specs.Stores.{AreNeverClean};
-ghost use Rattle.om_node.specs.Nodes.{AreAlwaysClean, TakesFrom};
+ghost use Rattle.om_node.specs.Nodes.{AreAlwaysClean, TakesFrom, KeepsMember, LeavesCore};
 ghost use Rattle.om_node.specs.Storing.{HasStored, with_flight};
 ghost use Rattle.om_stable.specs.Calls.{IsCleanCall, UsesStore};
 ghost use Rattle.om_stable.specs.declared.stable.TheConstants.{INTERVALS};
@@ -158,7 +158,7 @@ impl<'a, J: Series, S: Stable> Node<'a, J, S> {
 
     /// Runs at most `fuel` instructions. Refused where memory ran out.
     pub fn run(&mut self, alloc: Global, fuel: u64) -> Result<RunEnd, WorkerFault>
-        ensures member { self.new.member ≡ self.old.member }
+        ensures member { KeepsMember self.old self.new }
         ensures ran { IfOk result (λ ran. RunsTo self.old.core fuel ran.steps ran.status self.new.core) }
     {
         Ok(self.core.run(alloc, fuel)?)
@@ -166,7 +166,7 @@ impl<'a, J: Series, S: Stable> Node<'a, J, S> {
 
     /// Offers a message to the process.
     pub fn accept(&mut self, alloc: Global, message: &Message) -> Accept
-        ensures member { self.new.member ≡ self.old.member }
+        ensures member { KeepsMember self.old self.new }
         ensures slow { self.new.slow ≡ self.old.slow }
         ensures answer { Answers self.old.core message.now result }
         ensures taken { (x : ℕ) → result ≡ Accept.Taken x → self.new.core ≡ taken self.old.core message.now }
@@ -179,10 +179,10 @@ impl<'a, J: Series, S: Stable> Node<'a, J, S> {
     #[inline(never)]
     pub fn flush(&mut self, alloc: Global) -> Result<(), WorkerFault>
         requires here { self.old.away ≡ false }
-        ensures member { self.new.member ≡ self.old.member }
+        ensures member { KeepsMember self.old self.new }
         ensures away { self.new.away ≡ false }
         ensures stored { OnOk result (self.new.core ≡ flushed self.old.core) }
-        ensures refused { OnErr result (self.new.core ≡ self.old.core) }
+        ensures refused { LeavesCore self.old result self.new }
     {
         let Hold::Here(store) = &mut self.hold else {
             unreachable!()
@@ -201,7 +201,7 @@ impl<'a, J: Series, S: Stable> Node<'a, J, S> {
             result.0 result.1 (O.state access.new) }
         ensures keeps { Keeps (O.state access.old) (O.state access.new) }
         ensures core { self.new.core ≡ with_pending self.old.core (drop result.0 self.old.core.pending) }
-        ensures member { self.new.member ≡ self.old.member }
+        ensures member { KeepsMember self.old self.new }
         ensures away { self.new.away ≡ self.old.away }
     {
         om_member::note_at_once(&mut self.core, access, alloc, self.pid)
@@ -225,7 +225,7 @@ impl<'a, J: Series, S: Stable> Node<'a, J, S> {
     /// Drops what the process need not keep.
     pub fn trim(&mut self, bounds: &Bounds)
         requires { length bounds.now.got ≡ self.old.member.n }
-        ensures member { self.new.member ≡ self.old.member }
+        ensures member { KeepsMember self.old self.new }
         ensures away { self.new.away ≡ self.old.away }
         ensures core { self.new.core
             ≡ with_now self.old.core (trimmed (bounds.now.got ++ bounds.now.released ∷ []) self.old.core.now) }
@@ -241,10 +241,10 @@ impl<'a, J: Series, S: Stable> Node<'a, J, S> {
         verdict: &Verdict,
     ) -> Result<(), WorkerFault>
         requires { length starts.now ≡ self.old.member.n }
-        ensures member { self.new.member ≡ self.old.member }
+        ensures member { KeepsMember self.old self.new }
         ensures round { OnOk result (self.new.core.round ≡ verdict.now.round) }
         ensures on { OnOk result (self.new.core ≡ resumed self.old.core verdict.now.round starts.now) }
-        ensures refused { OnErr result (self.new.core ≡ self.old.core) }
+        ensures refused { LeavesCore self.old result self.new }
     {
         Ok(self.core.resume(alloc, starts, verdict)?)
     }
@@ -310,9 +310,9 @@ impl<'a, J: Series, S: Ledger> Node<'a, J, S> {
         deposit: &Deposit,
         prune_to: Option<u32>,
     ) -> Result<(), WorkerFault>
-        ensures member { self.new.member ≡ self.old.member }
+        ensures member { KeepsMember self.old self.new }
         ensures stored { OnOk result (HasStored k is_checkpoint_due self.old.core self.new.core) }
-        ensures refused { OnErr result (self.new.core ≡ self.old.core) }
+        ensures refused { LeavesCore self.old result self.new }
     {
         // The process's interval has 32 bits, so those of its receipts, which are not above it, have 32 bits too.
         let _ = self.core.interval();
@@ -334,7 +334,7 @@ impl<'a, J: Series, S: Ledger> Node<'a, J, S> {
         is_checkpoint_due: bool,
         due: Option<Due>,
     ) -> Result<Transaction, WorkerFault>
-        ensures member { self.new.member ≡ self.old.member }
+        ensures member { KeepsMember self.old self.new }
         ensures core { self.new.core ≡ self.old.core }
         ensures carries { IfOk result (λ transaction. Carries k is_checkpoint_due self.old.core transaction.flight) }
         ensures due { IfOk result (λ transaction. transaction.due ≡ due) }
@@ -358,7 +358,7 @@ impl<'a, J: Series, S: Ledger> Node<'a, J, S> {
         is_checkpoint_due: bool,
         due: Option<Due>,
     ) -> Result<Option<Landing<J, S>>, WorkerFault>
-        ensures member { self.new.member ≡ self.old.member }
+        ensures member { KeepsMember self.old self.new }
         ensures core { self.new.core ≡ self.old.core }
     {
         let transaction = self.pack(alloc, k, is_checkpoint_due, due)?;
@@ -415,12 +415,12 @@ impl<'a, J: Series, S: Stable> Node<'a, J, S> {
     /// refused, and then all that is still in the log; and where what comes back is not of the flight that is under way.
     #[inline(never)]
     pub fn land(&mut self, landing: Landing<J, S>) -> Result<Transaction, WorkerFault>
-        ensures member { self.new.member ≡ self.old.member }
+        ensures member { KeepsMember self.old self.new }
         ensures took { OnOk result (IsOk landing.told) }
         ensures here { OnOk result (self.new.away ≡ false) }
         ensures transaction { IfOk result (λ transaction. transaction ≡ landing.transaction) }
         ensures landed { IfOk result (λ transaction. self.new.core ≡ landed transaction.flight self.old.core) }
-        ensures refused { OnErr result (self.new.core ≡ self.old.core) }
+        ensures refused { LeavesCore self.old result self.new }
     {
         let Landing {
             store,

@@ -49,8 +49,7 @@ saved (Some count) was = record was { safe = min was.interval (was.safe + count)
 abbrev pub progress_after : Event → Answer → Progress → Progress
 progress_after (events.Give process frame) (answers.Given (accepts.Taken interval)) was = record was { interval = interval }
 progress_after (events.Flush process) (answers.Noted count) was = if count == 0 then was else saved None was
-progress_after (events.FlushFirst process many) (answers.Noted count) was =
-    if (count == 0) || (many == 0) then was else saved (Some many) was
+progress_after (events.FlushFirst process many) (answers.Noted count) was = if (count == 0) || (many == 0) then was else saved (Some many) was
 progress_after (events.Join process) (answers.Gathered gathered) was = saved None was
 progress_after (events.Resume process) (answers.Back interval inc) was = record { interval = interval; safe = interval }
 progress_after _ _ was = was
@@ -98,8 +97,7 @@ cuts interval place row = is_finished row.entry.answer && not (nat_le interval p
 -- one of these events does
 abbrev pub is_cut : ℕ → ℕ → ℕ → List EventRow → Bool
 is_cut p interval was [] = false
-is_cut p interval was (row ∷ rows) =
-    cuts interval (next_place p was row) row || is_cut p interval (next_place p was row) rows
+is_cut p interval was (row ∷ rows) = cuts interval (next_place p was row) row || is_cut p interval (next_place p was row) rows
 
 -- the process had stored all that it received up to an interval, as a round cut that, or in the end
 abbrev pub is_saved : ℕ → ℕ → ℕ → Progress → List EventRow → Bool

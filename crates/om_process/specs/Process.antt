@@ -36,10 +36,6 @@ pub data Move : Type 0 where
   Goes : (next : State) → Move
   Emits : (place : ℕ) (body : List ℕ) (next : State) → Move
 
--- the move adds a message or an output
-abbrev pub IsEmission : Move → Type 0
-IsEmission move = (place : ℕ) × (body : List ℕ) × (next : State) × (move ≡ Emits place body next)
-
 -- how many messages were sent to each process, and behind them how many outputs were made
 abbrev pub made : List QueueRecord → List ℕ
 made queues = map queue_end queues

@@ -33,12 +33,9 @@ abbrev pub after_event : ℕ → ℕ → State → List ℕ → Event → State 
 after_event own n m counts Went next = Goes next
 after_event own n m counts (Trap cause) next = Traps cause
 after_event own n m counts (Call (Exit code)) next = Ends code
-after_event own n m counts (Call (Send to addr len)) next =
-    if may_not_send n counts to len then refuses m else emits to addr len m
-after_event own n m counts (Call (Receive addr cap)) next =
-    if nat_le (addr + cap) (length m.memory) then Waits else Traps BufferOutside
-after_event own n m counts (Call (Output addr len)) next =
-    if nat_lt MAX_BODY len then refuses m else emits n addr len m
+after_event own n m counts (Call (Send to addr len)) next = if may_not_send n counts to len then refuses m else emits to addr len m
+after_event own n m counts (Call (Receive addr cap)) next = if nat_le (addr + cap) (length m.memory) then Waits else Traps BufferOutside
+after_event own n m counts (Call (Output addr len)) next = if nat_lt MAX_BODY len then refuses m else emits n addr len m
 after_event own n m counts (Call Who) next = Goes (finished_who own n m)
 
 -- what comes next at this machine

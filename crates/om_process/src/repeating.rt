@@ -8,6 +8,7 @@ ghost use Rattle.om_process.specs.Replays.{Replayed};
 ghost use Rattle.om_process.specs.declared.limits.TheConstants.{LAST_INTERVAL};
 ghost use Rattle.om_process.specs.steps.Fitting.{MayTake, DoesNotFit};
 ghost use Rattle.om_process.specs.steps.Rows.{AreGapless, Ascend, IsFirstGap, RefusesBytes, RefusesRow, RefusesRows, SpellRows};
+ghost use Rattle.om_process.specs.steps.Pieces.{ChangesProcessAlone, KeepsClusterSize};
 
 use crate::proc_core::ProcCore;
 use crate::replay::{ReplayFault, damaged};
@@ -54,8 +55,8 @@ impl ProcCore {
             → Replayed self.old.own (cluster_size self.old.now) self.old.now (receipt_record receipt.now ∷ []) self.new.now) }
         ensures other { IfOk result (λ fits. fits ≡ false
             → DoesNotFit self.old.own (cluster_size self.old.now) self.old.now (receipt_record receipt.now)) }
-        ensures rest { self.new ≡ with_now self.old self.new.now }
-        ensures size { cluster_size self.new.now ≡ cluster_size self.old.now }
+        ensures rest { ChangesProcessAlone self.old self.new }
+        ensures size { KeepsClusterSize self.old self.new }
     {
         if !self.may_take(receipt) {
             return Ok(false);
@@ -83,8 +84,8 @@ impl ProcCore {
         ensures replayed { OnOk result ((r : ReceiptRecord) × SpellsReceipt r bytes.now × (r.interval ≡ y)
             × Replayed self.old.own (cluster_size self.old.now) self.old.now (r ∷ []) self.new.now) }
         ensures refused { IfErr result (λ fault. RefusesRow self.old.own (cluster_size self.old.now) self.old.now (y, bytes.now) fault) }
-        ensures rest { self.new ≡ with_now self.old self.new.now }
-        ensures size { cluster_size self.new.now ≡ cluster_size self.old.now }
+        ensures rest { ChangesProcessAlone self.old self.new }
+        ensures size { KeepsClusterSize self.old self.new }
     {
         let receipt = receipt_at(alloc, y, bytes)?;
         if self.again(alloc, &receipt)? {
@@ -106,8 +107,8 @@ impl ProcCore {
             × Replayed self.old.own (cluster_size self.old.now) self.old.now rs self.new.now) }
         ensures refused { IfErr result (λ fault.
             RefusesRows self.old.own (cluster_size self.old.now) self.old.now (rows_of found.now.items) fault) }
-        ensures rest { self.new ≡ with_now self.old self.new.now }
-        ensures size { cluster_size self.new.now ≡ cluster_size self.old.now }
+        ensures rest { ChangesProcessAlone self.old self.new }
+        ensures size { KeepsClusterSize self.old self.new }
     {
         for (y, bytes) in found {
             self.repeat(alloc, *y, bytes)?;

@@ -1,15 +1,16 @@
 //! Turns of a process.
 
-ghost use Rattle.std.specs.Prelude.{ℕ, ◌≡◌, ◌≢◌, ◌+◌, ◌<◌, ◌≤◌, length, slice_index, slice_range, Option, None, Some, IfOk, OnOk, OnErr, IfSome};
+ghost use Rattle.std.specs.Prelude.{ℕ, ◌≡◌, ◌≢◌, ◌+◌, ◌<◌, ◌≤◌, length, slice_index, slice_range, Option, None, Some, IfOk, OnOk, OnErr, IfSome, List};
 ghost use Rattle.om_machine.specs.derived.NextStep.{next_of};
 ghost use Rattle.om_machine.specs.Finishing.{TakesWord, finished_who, finished_word};
 ghost use Rattle.om_process.specs.Core.{CoreTurns, cluster_size, core_refuses, core_turn, move_of, status_of, with_now};
 ghost use Rattle.om_process.specs.Turns.{is_refused_send};
 ghost use Rattle.om_process.specs.steps.Planned.{IsBuffer, with_bytes_emitted};
-ghost use Rattle.om_process.specs.Process.{Process, IsEmission, emitted, made};
-ghost use Rattle.om_process.specs.steps.Pieces.{with_machine};
+ghost use Rattle.om_process.specs.Process.{Process, Emits, emitted, made};
+ghost use Rattle.om_process.specs.steps.Pieces.{with_machine, ChangesProcessAlone, KeepsClusterSize};
 ghost use Rattle.om_format.specs.declared.limits.TheConstants.{MAX_BODY};
 ghost use Rattle.om_process.specs.declared.limits.TheConstants.{LAST_NUMBER};
+ghost use Rattle.om_machine.specs.State.{State};
 
 use crate::limits::REFUSED;
 use crate::plan::{Plan, may_not_send, plan_at};
@@ -65,8 +66,8 @@ impl ProcCore {
     fn go(&mut self, fuel: u64) -> om_machine::Ran
         ensures turns { CoreTurns result.steps self.old self.new }
         ensures none_refused { core_refuses result.steps self.old ≡ 0 }
-        ensures rest { self.new ≡ with_now self.old self.new.now }
-        ensures size { cluster_size self.new.now ≡ cluster_size self.old.now }
+        ensures rest { ChangesProcessAlone self.old self.new }
+        ensures size { KeepsClusterSize self.old self.new }
         ensures within { result.steps ≤ fuel }
         ensures stands { result.steps < fuel → (next_of self.new.now.machine).0 ≡ result.event }
         ensures stopped { result.steps < fuel → result.event ≢ Event.Went }
@@ -81,8 +82,8 @@ impl ProcCore {
         requires place { to < cluster_size self.old.now }
         requires room { slice_index (made self.old.now.queues) to < LAST_NUMBER }
         ensures ok { OnOk result (with_bytes_emitted self.old.now to addr len ≡ Some self.new.now) }
-        ensures rest { self.new ≡ with_now self.old self.new.now }
-        ensures size { cluster_size self.new.now ≡ cluster_size self.old.now }
+        ensures rest { ChangesProcessAlone self.old self.new }
+        ensures size { KeepsClusterSize self.old self.new }
         ensures err { OnErr result (self.new ≡ self.old) }
     {
         let body = copied(alloc, &self.machine, addr, len)?;
@@ -97,8 +98,8 @@ impl ProcCore {
         requires word { TakesWord (next_of self.old.now.machine).0 }
         requires buffer { IsBuffer self.old.now.machine addr len }
         ensures ok { OnOk result (with_bytes_emitted self.old.now (cluster_size self.old.now) addr len ≡ Some self.new.now) }
-        ensures rest { self.new ≡ with_now self.old self.new.now }
-        ensures size { cluster_size self.new.now ≡ cluster_size self.old.now }
+        ensures rest { ChangesProcessAlone self.old self.new }
+        ensures size { KeepsClusterSize self.old self.new }
         ensures err { OnErr result (self.new ≡ self.old) }
     {
         let body = copied(alloc, &self.machine, addr, len)?;
@@ -144,11 +145,11 @@ impl ProcCore {
         ensures not_ready { IfOk result (λ stop. IfSome stop (λ status. status ≢ Status.Ready)) }
         ensures stop { IfOk result (λ stop. IfSome stop (λ status.
             (status ≡ status_of (move_of self.old)) × (self.new ≡ self.old))) }
-        ensures rest { self.new ≡ with_now self.old self.new.now }
-        ensures size { cluster_size self.new.now ≡ cluster_size self.old.now }
+        ensures rest { ChangesProcessAlone self.old self.new }
+        ensures size { KeepsClusterSize self.old self.new }
         ensures err { OnErr result (self.new ≡ self.old) }
         ensures due { OnErr result ((p : Process) × (core_turn self.old ≡ Some p)) }
-        ensures adds { OnErr result (IsEmission (move_of self.old)) }
+        ensures adds { OnErr result ((place : ℕ) × (body : List ℕ) × (next : State) × (move_of self.old ≡ Emits place body next)) }
     {
         match plan_at(&self.machine, &self.sent, event) {
             Plan::Go => unreachable!(),
@@ -171,10 +172,10 @@ impl ProcCore {
         ensures stops { IfOk result (λ ran. ran.steps < fuel → ran.status ≢ Status.Ready) }
         ensures no_more { IfOk result (λ ran. ran.steps < fuel → core_turn self.new ≡ None) }
         ensures due { OnErr result ((p : Process) × (core_turn self.new ≡ Some p)) }
-        ensures adds { OnErr result (IsEmission (move_of self.new)) }
+        ensures adds { OnErr result ((place : ℕ) × (body : List ℕ) × (next : State) × (move_of self.new ≡ Emits place body next)) }
         ensures at_most { (k : ℕ) × (k ≤ fuel) × CoreTurns k self.old self.new }
-        ensures rest { self.new ≡ with_now self.old self.new.now }
-        ensures size { cluster_size self.new.now ≡ cluster_size self.old.now }
+        ensures rest { ChangesProcessAlone self.old self.new }
+        ensures size { KeepsClusterSize self.old self.new }
     {
         let mut steps = 0;
         let mut refused = 0;

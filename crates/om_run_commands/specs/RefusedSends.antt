@@ -8,8 +8,7 @@ use Rattle.om_run_commands.specs.Trapped.{unseen}
 
 -- the line of a process of which so many sends were refused, and nothing where none was
 abbrev pub refused_line : List ℕ → ℕ → List ℕ
-refused_line name count =
-    if nat_eq count 0 then [] else name ++ (codes ": refused sends: " ++ (decimal count ++ codes "\n"))
+refused_line name count = if nat_eq count 0 then [] else name ++ (codes ": refused sends: " ++ (decimal count ++ codes "\n"))
 
 -- by what was seen of each process, a line for each of which sends were refused, in their order
 abbrev pub refused_sends_text : Cluster → List Sight → List ℕ

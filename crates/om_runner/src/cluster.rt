@@ -7,7 +7,7 @@ ghost use Rattle.om_report.specs.Faults.{IsFaultOf};
 ghost use Rattle.om_report.specs.Telling.{AreInOrder, AreToldMade, Told};
 ghost use Rattle.om_following.specs.declared.follower.FollowFault.TheVariants.{Unwanted};
 ghost use Rattle.om_node.specs.Nodes.{AreAlwaysClean};
-ghost use Rattle.om_cluster.specs.Ends.{IsGiven};
+ghost use Rattle.om_cluster.specs.Ends.{IsGiven, FitsCluster};
 ghost use Rattle.om_report.specs.Reports.{IsToldReport, IsWholeReport};
 ghost use Rattle.om_runner.specs.Reports.{AreWholeOver};
 
@@ -40,7 +40,7 @@ pub fn run_cluster<R: Threads + Wait + Clock + Sync, G: Gate + Sync, O: Opener<R
     opener: &O,
 ) -> Result<Report, RunFault>
     requires some { 1 ≤ length config.now.images.items }
-    requires few { length config.now.images.items ≤ MAX_PROCESSES }
+    requires few { FitsCluster config.now }
     ensures report { IfOk result (IsWholeReport (AreAlwaysClean O.Store.is_clean) (map program_of config.now.images.items)) }
     ensures given { OnOk result (IsGiven config.now) }
     ensures fault { IfErr result (IsFaultOf (length config.now.images.items)) }
@@ -59,7 +59,7 @@ pub fn run_and_keep_stores<R: Threads + Wait + Clock + Sync, G: Gate + Sync, O: 
     opener: &O,
 ) -> Result<(Report, Vec<O::Store>), RunFault>
     requires some { 1 ≤ length config.now.images.items }
-    requires few { length config.now.images.items ≤ MAX_PROCESSES }
+    requires few { FitsCluster config.now }
     ensures report { IfOk result (λ r. IsWholeReport (AreAlwaysClean O.Store.is_clean) (map program_of config.now.images.items) r.0) }
     ensures stores { IfOk result (λ r. length r.1.items ≡ length config.now.images.items) }
     ensures whole { IfOk result (λ r. AreWholeOver O.Store.is_clean config.now.images.items r.0.statuses.items r.0.released.items r.1.items) }
@@ -82,7 +82,7 @@ pub fn run_and_keep_witnesses<
     opener: &O,
 ) -> Result<(Report, Vec<Witness>), RunFault>
     requires some { 1 ≤ length config.now.images.items }
-    requires few { length config.now.images.items ≤ MAX_PROCESSES }
+    requires few { FitsCluster config.now }
     ensures report { IfOk result (λ r. IsWholeReport (AreAlwaysClean O.Store.is_clean) (map program_of config.now.images.items) r.0) }
     ensures given { OnOk result (IsGiven config.now) }
     ensures fault { IfErr result (IsFaultOf (length config.now.images.items)) }
@@ -111,7 +111,7 @@ pub fn run_and_follow<
     follower: F,
 ) -> (Result<FollowedReport, FollowFault>, F)
     requires some { 1 ≤ length config.now.images.items }
-    requires few { length config.now.images.items ≤ MAX_PROCESSES }
+    requires few { FitsCluster config.now }
     requires start { F.Tells follower follower [] }
     ensures told { IfOk result.0 (λ report. (told : List Told) × F.Tells follower result.1 told
         × IsToldReport (AreAlwaysClean O.Store.is_clean) (map program_of config.now.images.items) report.statuses.items report.front told) }
@@ -140,7 +140,7 @@ pub fn run_and_record<
     scribe: S,
 ) -> (Result<Report, RunFault>, S)
     requires some { 1 ≤ length config.now.images.items }
-    requires few { length config.now.images.items ≤ MAX_PROCESSES }
+    requires few { FitsCluster config.now }
     ensures report { IfOk result.0 (IsWholeReport (AreAlwaysClean O.Store.is_clean) (map program_of config.now.images.items)) }
     ensures given { OnOk result.0 (IsGiven config.now) }
     ensures fault { IfErr result.0 (IsFaultOf (length config.now.images.items)) }

@@ -6,6 +6,7 @@ ghost use Rattle.om_process.specs.Stores.{flushed};
 ghost use Rattle.om_process.specs.Trims.{trimmed};
 ghost use Rattle.om_node.specs.Storing.{HasStored};
 ghost use Rattle.om_storing.specs.Receipts.{HasStoredBy, is_multiple_of};
+ghost use Rattle.om_node.specs.Nodes.{KeepsMember, LeavesCore};
 
 use crate::kept::Kept;
 use om_node::{Deposit, Due, Landing, Limits, Node, Transaction, WorkerFault};
@@ -127,10 +128,10 @@ impl Storing {
         node: &mut Node<'_, J, S>,
     ) -> Result<(), WorkerFault>
         requires here { node.old.away ≡ false }
-        ensures member { node.new.member ≡ node.old.member }
+        ensures member { KeepsMember node.old node.new }
         ensures away { node.new.away ≡ false }
         ensures stored { OnOk result (node.new.core ≡ flushed node.old.core) }
-        ensures refused { OnErr result (node.new.core ≡ node.old.core) }
+        ensures refused { LeavesCore node.old result node.new }
     {
         node.flush(alloc)?;
         self.handed.receipts = node.core().interval();
@@ -146,7 +147,7 @@ impl Storing {
         flush: u32,
         checkpoint: u32,
     ) -> Result<(), WorkerFault>
-        ensures member { node.new.member ≡ node.old.member }
+        ensures member { KeepsMember node.old node.new }
         ensures now { node.new.core.now ≡ node.old.core.now }
         ensures stored { OnOk result (HasStoredBy x flush checkpoint (is_some self.old.kept) node.old.core node.new.core) }
     {
@@ -174,7 +175,7 @@ impl Storing {
         senders: &[u8],
     ) -> Result<(), WorkerFault>
         requires { IfSome limits (λ l. length l.bounds.got ≡ node.old.member.n) }
-        ensures member { node.new.member ≡ node.old.member }
+        ensures member { KeepsMember node.old node.new }
         ensures trimmed { OnOk result (IfSome limits (λ l. node.new.core.now
             ≡ trimmed (l.bounds.got ++ l.bounds.released ∷ []) node.old.core.now)) }
         ensures untrimmed { IfNone limits (node.new.core.now ≡ node.old.core.now) }
@@ -197,7 +198,7 @@ impl Storing {
         senders: &[u8],
     ) -> Result<(), WorkerFault>
         requires { length limits.now.bounds.got ≡ node.old.member.n }
-        ensures member { node.new.member ≡ node.old.member }
+        ensures member { KeepsMember node.old node.new }
         ensures due { OnOk result (IfSome self.new.due (λ due. due.checkpoint ≡ limits.now.checkpoint)) }
         ensures owed { OnOk result (IsSome self.new.due) }
         ensures trimmed { OnOk result (node.new.core.now
@@ -222,7 +223,7 @@ impl Storing {
         alloc: Global,
         node: &mut Node<'_, J, S>,
     ) -> Result<(), WorkerFault>
-        ensures member { node.new.member ≡ node.old.member }
+        ensures member { KeepsMember node.old node.new }
         ensures now { node.new.core.now ≡ node.old.core.now }
         ensures settled { OnOk result (self.new.due ≡ None) }
     {
@@ -240,10 +241,10 @@ impl Storing {
         k: usize,
         is_checkpoint_due: bool,
     ) -> Result<(), WorkerFault>
-        ensures member { node.new.member ≡ node.old.member }
+        ensures member { KeepsMember node.old node.new }
         ensures now { node.new.core.now ≡ node.old.core.now }
         ensures stored { OnOk result (HasStored k is_checkpoint_due node.old.core node.new.core) }
-        ensures refused { OnErr result (node.new.core ≡ node.old.core) }
+        ensures refused { LeavesCore node.old result node.new }
         ensures settled { OnOk result (self.new.due ≡ None) }
     {
         let Some(due) = self.due.take() else {
@@ -264,10 +265,10 @@ impl Storing {
         is_checkpoint_due: bool,
         due: &Due,
     ) -> Result<(), WorkerFault>
-        ensures member { node.new.member ≡ node.old.member }
+        ensures member { KeepsMember node.old node.new }
         ensures now { node.new.core.now ≡ node.old.core.now }
         ensures stored { OnOk result (HasStored k is_checkpoint_due node.old.core node.new.core) }
-        ensures refused { OnErr result (node.new.core ≡ node.old.core) }
+        ensures refused { LeavesCore node.old result node.new }
         ensures due { self.new.due ≡ self.old.due }
     {
         let prune_to = Some(due.checkpoint);
@@ -296,7 +297,7 @@ impl Storing {
         flush: u32,
         checkpoint: u32,
     ) -> Result<(), WorkerFault>
-        ensures member { node.new.member ≡ node.old.member }
+        ensures member { KeepsMember node.old node.new }
         ensures now { node.new.core.now ≡ node.old.core.now }
     {
         if !node.is_slow() || node.is_away() || !node.core().pending().is_empty() {
@@ -324,7 +325,7 @@ impl Storing {
         is_log_due: bool,
         is_checkpoint_due: bool,
     ) -> Result<(), WorkerFault>
-        ensures member { node.new.member ≡ node.old.member }
+        ensures member { KeepsMember node.old node.new }
         ensures now { node.new.core.now ≡ node.old.core.now }
     {
         let x = node.core().interval();
@@ -352,7 +353,7 @@ impl Storing {
         node: &mut Node<'_, J, S>,
         diary: &mut Diary<'_>,
     ) -> Result<(), WorkerFault>
-        ensures member { node.new.member ≡ node.old.member }
+        ensures member { KeepsMember node.old node.new }
         ensures now { node.new.core.now ≡ node.old.core.now }
     {
         if !self.is_away {
@@ -371,7 +372,7 @@ impl Storing {
         node: &mut Node<'_, J, S>,
         diary: &mut Diary<'_>,
     ) -> Result<(), WorkerFault>
-        ensures member { node.new.member ≡ node.old.member }
+        ensures member { KeepsMember node.old node.new }
         ensures landed { OnOk result (node.new.away ≡ false) }
         ensures now { node.new.core.now ≡ node.old.core.now }
     {
@@ -391,11 +392,11 @@ impl Storing {
         diary: &mut Diary<'_>,
         landing: Landing<J, S>,
     ) -> Result<(), WorkerFault>
-        ensures member { node.new.member ≡ node.old.member }
+        ensures member { KeepsMember node.old node.new }
         ensures here { OnOk result (node.new.away ≡ false) }
         ensures now { node.new.core.now ≡ node.old.core.now }
         ensures landed { OnOk result (node.new.core ≡ landed landing.transaction.flight node.old.core) }
-        ensures refused { OnErr result (node.new.core ≡ node.old.core) }
+        ensures refused { LeavesCore node.old result node.new }
     {
         self.is_away = false;
         let transaction = node.land(landing)?;

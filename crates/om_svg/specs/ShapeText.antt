@@ -64,8 +64,7 @@ message_start again cut = codes "<path class=\"" ++ (if again then codes "n" els
 
 -- a line across the lanes
 abbrev pub message_line_text : MessageLine → List ℕ
-message_line_text (message_lines.Message again cut from to) =
-    message_start again cut ++ arrow_text from to
+message_line_text (message_lines.Message again cut from to) = message_start again cut ++ arrow_text from to
 message_line_text (message_lines.Trail from to) = codes "<path class=\"o\" d=\"" ++ arrow_text from to
 message_line_text (message_lines.Short below to) =
     codes "<path class=\"o\" d=\"M" ++ decimal (to.x - 12) ++ 32
@@ -100,8 +99,7 @@ detail_text (details.Round changed round state) =
 
 -- the event's line, the event, its answer and more
 unfoldable pub told_text : Title → List ℕ
-told_text title =
-    decimal title.line ++ 32 ∷ event_text title.event ++ codes ": " ++ answer_text title.answer ++ detail_text title.more
+told_text title = decimal title.line ++ 32 ∷ event_text title.event ++ codes ": " ++ answer_text title.answer ++ detail_text title.more
 
 unfoldable pub title_text : Title → List ℕ
 title_text title = codes "<title>" ++ told_text title ++ codes "</title>"

@@ -28,8 +28,7 @@ label_text label more = bytes_text label ++ (if more == 0 then [] else codes "+"
 -- where a process stands
 abbrev pub end_state_text : Option EndState → List ℕ
 end_state_text None = codes "down"
-end_state_text (Some now) =
-    codes "inc " ++ decimal now.inc ++ codes " interval " ++ decimal now.interval ++ 32 ∷ status_text now.status
+end_state_text (Some now) = codes "inc " ++ decimal now.inc ++ codes " interval " ++ decimal now.interval ++ 32 ∷ status_text now.status
 
 abbrev pub content_text : Cluster → LabelContent → List ℕ
 content_text cluster (contents.Number number) = decimal number

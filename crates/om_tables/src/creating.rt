@@ -1,7 +1,7 @@
 //! The two tables are made.
 ghost use Rattle.std.specs.Prelude.{◌≡◌, false, IsTrue, OnOk, OnErr};
 ghost use Rattle.om_tables.specs.Store.{LeavesCommitted};
-ghost use Rattle.om_tables.specs.steps.Statements.{Follows, Makes, HasNoTables, HasReceipts, HoldsNothing};
+ghost use Rattle.om_tables.specs.steps.Statements.{Follows, Makes, HasNoTables, HasReceipts, HoldsNothing, IsIdle, IsSameReference};
 ghost use Rattle.sqlite.specs.Held.{state};
 ghost use Rattle.sqlite.specs.State.{HasCleanDisk};
 
@@ -9,7 +9,7 @@ use crate::refusal::{Refusal, commit, execute};
 use sqlite::{Alter, Connection, Transaction};
 
 fn create_receipts<S: Alter>(tx: &mut Transaction<'_, S>) -> Result<usize, Refusal>
-    ensures same_reference { tx.new.conn.ghost_name ≡ tx.old.conn.ghost_name }
+    ensures same_reference { IsSameReference tx.old.conn.ghost_name tx.new.conn.ghost_name }
     ensures makes { Makes HasNoTables HasReceipts
         (state S.Store tx.old.conn.now) (state S.Store tx.new.conn.now) result }
     ensures clean { HasCleanDisk (state S.Store tx.new.conn.now) → HasCleanDisk (state S.Store tx.old.conn.now) }
@@ -22,7 +22,7 @@ fn create_receipts<S: Alter>(tx: &mut Transaction<'_, S>) -> Result<usize, Refus
 }
 
 fn create_checkpoints<S: Alter>(tx: &mut Transaction<'_, S>) -> Result<usize, Refusal>
-    ensures same_reference { tx.new.conn.ghost_name ≡ tx.old.conn.ghost_name }
+    ensures same_reference { IsSameReference tx.old.conn.ghost_name tx.new.conn.ghost_name }
     ensures makes { Makes HasReceipts HoldsNothing
         (state S.Store tx.old.conn.now) (state S.Store tx.new.conn.now) result }
     ensures clean { HasCleanDisk (state S.Store tx.new.conn.now) → HasCleanDisk (state S.Store tx.old.conn.now) }
@@ -35,7 +35,7 @@ fn create_checkpoints<S: Alter>(tx: &mut Transaction<'_, S>) -> Result<usize, Re
 }
 
 pub(crate) fn create_both<S: Alter>(tx: &mut Transaction<'_, S>) -> Result<(), Refusal>
-    ensures same_reference { tx.new.conn.ghost_name ≡ tx.old.conn.ghost_name }
+    ensures same_reference { IsSameReference tx.old.conn.ghost_name tx.new.conn.ghost_name }
     ensures makes { Makes HasNoTables HoldsNothing
         (state S.Store tx.old.conn.now) (state S.Store tx.new.conn.now) result }
     ensures clean { HasCleanDisk (state S.Store tx.new.conn.now) → HasCleanDisk (state S.Store tx.old.conn.now) }
@@ -47,8 +47,8 @@ pub(crate) fn create_both<S: Alter>(tx: &mut Transaction<'_, S>) -> Result<(), R
 
 // Makes both tables, or none.
 pub(crate) fn create_tables<S: Alter>(conn: &mut Connection<S>) -> Result<(), Refusal>
-    requires idle { (state S.Store conn.old).in_transaction ≡ false }
-    ensures idle { (state S.Store conn.new).in_transaction ≡ false }
+    requires idle { IsIdle (state S.Store conn.old) }
+    ensures idle { IsIdle (state S.Store conn.new) }
     ensures made { HasCleanDisk (state S.Store conn.new) → HasNoTables (state S.Store conn.old).now
         → OnOk result (HoldsNothing (state S.Store conn.new).now) }
     ensures settled { HasCleanDisk (state S.Store conn.new)

@@ -1,7 +1,7 @@
 //! Records are removed.
 ghost use Rattle.std.specs.Prelude.{◌≡◌, nat_le, nat_lt, false};
 ghost use Rattle.std.specs.FinMap as finite;
-ghost use Rattle.om_tables.specs.steps.Statements.{Performs, Transacts};
+ghost use Rattle.om_tables.specs.steps.Statements.{Performs, Transacts, IsIdle, IsSameReference};
 ghost use Rattle.om_stable.specs.Content.{kept_by_cut, kept_by_prune};
 ghost use Rattle.sqlite.specs.Held.{state};
 
@@ -9,7 +9,7 @@ use crate::refusal::{Refusal, commit, execute};
 use sqlite::{Alter, Connection, Transaction, params};
 
 fn cut_receipts<S: Alter>(tx: &mut Transaction<'_, S>, r: u32) -> Result<usize, Refusal>
-    ensures same_reference { tx.new.conn.ghost_name ≡ tx.old.conn.ghost_name }
+    ensures same_reference { IsSameReference tx.old.conn.ghost_name tx.new.conn.ghost_name }
     ensures performs { Performs (λ k. record k { receipts = finite.retain_keys k.receipts (λ x. nat_le x r) })
         (state S.Store tx.old.conn.now) (state S.Store tx.new.conn.now) result }
 {
@@ -17,7 +17,7 @@ fn cut_receipts<S: Alter>(tx: &mut Transaction<'_, S>, r: u32) -> Result<usize, 
 }
 
 fn cut_checkpoints<S: Alter>(tx: &mut Transaction<'_, S>, r: u32) -> Result<usize, Refusal>
-    ensures same_reference { tx.new.conn.ghost_name ≡ tx.old.conn.ghost_name }
+    ensures same_reference { IsSameReference tx.old.conn.ghost_name tx.new.conn.ghost_name }
     ensures performs { Performs (λ k. record k { checkpoints = finite.retain_keys k.checkpoints (λ x. nat_le x r) })
         (state S.Store tx.old.conn.now) (state S.Store tx.new.conn.now) result }
 {
@@ -25,7 +25,7 @@ fn cut_checkpoints<S: Alter>(tx: &mut Transaction<'_, S>, r: u32) -> Result<usiz
 }
 
 fn prune_receipts<S: Alter>(tx: &mut Transaction<'_, S>, c: u32) -> Result<usize, Refusal>
-    ensures same_reference { tx.new.conn.ghost_name ≡ tx.old.conn.ghost_name }
+    ensures same_reference { IsSameReference tx.old.conn.ghost_name tx.new.conn.ghost_name }
     ensures performs { Performs (λ k. record k { receipts = finite.retain_keys k.receipts (λ x. nat_lt c x) })
         (state S.Store tx.old.conn.now) (state S.Store tx.new.conn.now) result }
 {
@@ -33,7 +33,7 @@ fn prune_receipts<S: Alter>(tx: &mut Transaction<'_, S>, c: u32) -> Result<usize
 }
 
 fn prune_checkpoints<S: Alter>(tx: &mut Transaction<'_, S>, c: u32) -> Result<usize, Refusal>
-    ensures same_reference { tx.new.conn.ghost_name ≡ tx.old.conn.ghost_name }
+    ensures same_reference { IsSameReference tx.old.conn.ghost_name tx.new.conn.ghost_name }
     ensures performs { Performs (λ k. record k { checkpoints = finite.retain_keys k.checkpoints (λ x. nat_le c x) })
         (state S.Store tx.old.conn.now) (state S.Store tx.new.conn.now) result }
 {
@@ -41,7 +41,7 @@ fn prune_checkpoints<S: Alter>(tx: &mut Transaction<'_, S>, c: u32) -> Result<us
 }
 
 fn cut_both<S: Alter>(tx: &mut Transaction<'_, S>, r: u32) -> Result<(), Refusal>
-    ensures same_reference { tx.new.conn.ghost_name ≡ tx.old.conn.ghost_name }
+    ensures same_reference { IsSameReference tx.old.conn.ghost_name tx.new.conn.ghost_name }
     ensures performs { Performs (λ k. kept_by_cut k r)
         (state S.Store tx.old.conn.now) (state S.Store tx.new.conn.now) result }
 {
@@ -52,8 +52,8 @@ fn cut_both<S: Alter>(tx: &mut Transaction<'_, S>, r: u32) -> Result<(), Refusal
 
 // Removes what stands above `r`, or nothing.
 pub(crate) fn cut<S: Alter>(conn: &mut Connection<S>, r: u32) -> Result<(), Refusal>
-    requires idle { (state S.Store conn.old).in_transaction ≡ false }
-    ensures idle { (state S.Store conn.new).in_transaction ≡ false }
+    requires idle { IsIdle (state S.Store conn.old) }
+    ensures idle { IsIdle (state S.Store conn.new) }
     ensures transacts { Transacts (λ c. kept_by_cut c r) (state S.Store conn.old) (state S.Store conn.new) result }
 {
     let mut tx = conn.transaction();
@@ -62,7 +62,7 @@ pub(crate) fn cut<S: Alter>(conn: &mut Connection<S>, r: u32) -> Result<(), Refu
 }
 
 pub(crate) fn prune_both<S: Alter>(tx: &mut Transaction<'_, S>, at: u32) -> Result<(), Refusal>
-    ensures same_reference { tx.new.conn.ghost_name ≡ tx.old.conn.ghost_name }
+    ensures same_reference { IsSameReference tx.old.conn.ghost_name tx.new.conn.ghost_name }
     ensures performs { Performs (λ k. kept_by_prune k at)
         (state S.Store tx.old.conn.now) (state S.Store tx.new.conn.now) result }
 {
@@ -73,8 +73,8 @@ pub(crate) fn prune_both<S: Alter>(tx: &mut Transaction<'_, S>, at: u32) -> Resu
 
 // Removes what a prune to `at` removes, or nothing.
 pub(crate) fn prune<S: Alter>(conn: &mut Connection<S>, at: u32) -> Result<(), Refusal>
-    requires idle { (state S.Store conn.old).in_transaction ≡ false }
-    ensures idle { (state S.Store conn.new).in_transaction ≡ false }
+    requires idle { IsIdle (state S.Store conn.old) }
+    ensures idle { IsIdle (state S.Store conn.new) }
     ensures transacts { Transacts (λ c. kept_by_prune c at) (state S.Store conn.old) (state S.Store conn.new) result }
 {
     let mut tx = conn.transaction();

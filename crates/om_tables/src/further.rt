@@ -3,6 +3,7 @@ ghost use Rattle.std.specs.Prelude.{◌≡◌, ◌+◌, ◌≤◌, pos, length, 
 ghost use Rattle.om_stable.specs.declared.ledger.TheConstants.{LEDGER_NUMBERS};
 ghost use Rattle.om_stable.specs.declared.stable.TheConstants.{INTERVALS};
 ghost use Rattle.sqlite.specs.Held.{state};
+ghost use Rattle.om_tables.specs.steps.Statements.{IsIdle, IsSameReference, IsWithinIntervals};
 
 use crate::creating::create_both;
 use crate::refusal::{Refusal, commit, execute, query_all, read};
@@ -20,7 +21,7 @@ fn number_of(first: u64, k: usize) -> i64
 }
 
 fn create_further<S: Alter>(tx: &mut Transaction<'_, S>) -> Result<(), Refusal>
-    ensures same_reference { tx.new.conn.ghost_name ≡ tx.old.conn.ghost_name }
+    ensures same_reference { IsSameReference tx.old.conn.ghost_name tx.new.conn.ghost_name }
 {
     execute(
         tx,
@@ -42,8 +43,8 @@ fn create_further<S: Alter>(tx: &mut Transaction<'_, S>) -> Result<(), Refusal>
 
 // Makes all five tables, or none.
 pub(crate) fn create_five<S: Alter>(conn: &mut Connection<S>) -> Result<(), Refusal>
-    requires idle { (state S.Store conn.old).in_transaction ≡ false }
-    ensures idle { (state S.Store conn.new).in_transaction ≡ false }
+    requires idle { IsIdle (state S.Store conn.old) }
+    ensures idle { IsIdle (state S.Store conn.new) }
 {
     let mut tx = conn.transaction();
     create_both(&mut tx)?;
@@ -57,7 +58,7 @@ fn insert_row<S: Alter>(
     x: i64,
     body: &[u8],
 ) -> Result<usize, Refusal>
-    ensures same_reference { tx.new.conn.ghost_name ≡ tx.old.conn.ghost_name }
+    ensures same_reference { IsSameReference tx.old.conn.ghost_name tx.new.conn.ghost_name }
 {
     let text = match table {
         LedgerTable::Outputs => "INSERT INTO outputs (x, body) VALUES (?1, ?2)",
@@ -74,7 +75,7 @@ fn insert_rows<S: Alter>(
     recs: &[Vec<u8>],
 ) -> Result<(), Refusal>
     requires { first + length recs.now ≤ LEDGER_NUMBERS }
-    ensures same_reference { tx.new.conn.ghost_name ≡ tx.old.conn.ghost_name }
+    ensures same_reference { IsSameReference tx.old.conn.ghost_name tx.new.conn.ghost_name }
 {
     for (k, body) in recs.iter().enumerate() {
         insert_row(tx, table, number_of(first, k), body)?;
@@ -90,8 +91,8 @@ pub(crate) fn put_rows<S: Alter>(
     recs: &[Vec<u8>],
 ) -> Result<(), Refusal>
     requires fits { first + length recs.now ≤ LEDGER_NUMBERS }
-    requires idle { (state S.Store conn.old).in_transaction ≡ false }
-    ensures idle { (state S.Store conn.new).in_transaction ≡ false }
+    requires idle { IsIdle (state S.Store conn.old) }
+    ensures idle { IsIdle (state S.Store conn.new) }
 {
     let mut tx = conn.transaction();
     insert_rows(&mut tx, table, first, recs)?;
@@ -103,11 +104,11 @@ pub(crate) fn write_five<S: Alter>(
     conn: &mut Connection<S>,
     batch: &WriteBatch<'_>,
 ) -> Result<(), Refusal>
-    requires receipts { batch.now.first + length batch.now.receipts.now ≤ INTERVALS }
+    requires receipts { IsWithinIntervals batch.now }
     requires outputs { batch.now.outputs.first + length batch.now.outputs.recs.now ≤ LEDGER_NUMBERS }
     requires senders { batch.now.senders.first + length batch.now.senders.recs.now ≤ LEDGER_NUMBERS }
-    requires idle { (state S.Store conn.old).in_transaction ≡ false }
-    ensures idle { (state S.Store conn.new).in_transaction ≡ false }
+    requires idle { IsIdle (state S.Store conn.old) }
+    ensures idle { IsIdle (state S.Store conn.new) }
 {
     let (outputs, senders) = (batch.outputs, batch.senders);
     let mut tx = conn.transaction();
@@ -121,8 +122,8 @@ fn rows_in_table<S: Alter>(
     conn: &mut Connection<S>,
     table: LedgerTable,
 ) -> Result<Vec<Row>, Refusal>
-    requires idle { (state S.Store conn.old).in_transaction ≡ false }
-    ensures idle { (state S.Store conn.new).in_transaction ≡ false }
+    requires idle { IsIdle (state S.Store conn.old) }
+    ensures idle { IsIdle (state S.Store conn.new) }
 {
     let text = match table {
         LedgerTable::Outputs => "SELECT x, body FROM outputs ORDER BY x",
@@ -143,8 +144,8 @@ pub(crate) fn all_in<S: Alter>(
     alloc: Global,
     table: LedgerTable,
 ) -> Result<Vec<(u64, Vec<u8>)>, Refusal>
-    requires idle { (state S.Store conn.old).in_transaction ≡ false }
-    ensures idle { (state S.Store conn.new).in_transaction ≡ false }
+    requires idle { IsIdle (state S.Store conn.old) }
+    ensures idle { IsIdle (state S.Store conn.new) }
 {
     let rows = rows_in_table(conn, table)?;
     let mut found = Vec::with_capacity(alloc, rows.len())?;

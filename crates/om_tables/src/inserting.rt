@@ -1,6 +1,6 @@
 //! Records are put.
 ghost use Rattle.std.specs.Prelude.{◌≡◌, ◌+◌, ◌≤◌, [], ◌∷◌, length, false};
-ghost use Rattle.om_tables.specs.steps.Statements.{Performs, Transacts};
+ghost use Rattle.om_tables.specs.steps.Statements.{Performs, Transacts, IsIdle, IsSameReference};
 ghost use Rattle.om_stable.specs.Content.{with_receipts, with_checkpoint, bytes_of};
 ghost use Rattle.om_stable.specs.declared.stable.TheConstants.{INTERVALS};
 ghost use Rattle.std.specs.FinMap as finite;
@@ -17,7 +17,7 @@ fn insert_receipt<S: Alter>(
     x: u32,
     body: &[u8],
 ) -> Result<usize, Refusal>
-    ensures same_reference { tx.new.conn.ghost_name ≡ tx.old.conn.ghost_name }
+    ensures same_reference { IsSameReference tx.old.conn.ghost_name tx.new.conn.ghost_name }
     ensures performs { Performs (λ c. record c { receipts = finite.insert c.receipts x body.now })
         (state S.Store tx.old.conn.now) (state S.Store tx.new.conn.now) result }
 {
@@ -33,7 +33,7 @@ pub(crate) fn insert_checkpoint<S: Alter>(
     x: u32,
     body: &[u8],
 ) -> Result<usize, Refusal>
-    ensures same_reference { tx.new.conn.ghost_name ≡ tx.old.conn.ghost_name }
+    ensures same_reference { IsSameReference tx.old.conn.ghost_name tx.new.conn.ghost_name }
     ensures performs { Performs (λ c. with_checkpoint c x body.now)
         (state S.Store tx.old.conn.now) (state S.Store tx.new.conn.now) result }
 {
@@ -50,7 +50,7 @@ fn insert_each<S: Alter>(
     recs: &[Vec<u8>],
 ) -> Result<(), Refusal>
     requires { first + length recs.now ≤ INTERVALS }
-    ensures same_reference { tx.new.conn.ghost_name ≡ tx.old.conn.ghost_name }
+    ensures same_reference { IsSameReference tx.old.conn.ghost_name tx.new.conn.ghost_name }
     ensures performs { Performs (λ c. with_receipts c first (bytes_of recs.now))
         (state S.Store tx.old.conn.now) (state S.Store tx.new.conn.now) result }
 {
@@ -70,7 +70,7 @@ fn insert_four<S: Alter>(
     d: &[u8],
 ) -> Result<usize, Refusal>
     requires { first + 4 ≤ INTERVALS }
-    ensures same_reference { tx.new.conn.ghost_name ≡ tx.old.conn.ghost_name }
+    ensures same_reference { IsSameReference tx.old.conn.ghost_name tx.new.conn.ghost_name }
     ensures performs { Performs (λ k. with_receipts k first (a.now ∷ b.now ∷ c.now ∷ d.now ∷ []))
         (state S.Store tx.old.conn.now) (state S.Store tx.new.conn.now) result }
 {
@@ -88,7 +88,7 @@ fn insert_few<S: Alter>(
     recs: &[Vec<u8>],
 ) -> Result<(), Refusal>
     requires { first + length recs.now ≤ INTERVALS }
-    ensures same_reference { tx.new.conn.ghost_name ≡ tx.old.conn.ghost_name }
+    ensures same_reference { IsSameReference tx.old.conn.ghost_name tx.new.conn.ghost_name }
     ensures performs { Performs (λ c. with_receipts c first (bytes_of recs.now))
         (state S.Store tx.old.conn.now) (state S.Store tx.new.conn.now) result }
 {
@@ -105,7 +105,7 @@ pub(crate) fn insert_receipts<S: Alter>(
     recs: &[Vec<u8>],
 ) -> Result<(), Refusal>
     requires { first + length recs.now ≤ INTERVALS }
-    ensures same_reference { tx.new.conn.ghost_name ≡ tx.old.conn.ghost_name }
+    ensures same_reference { IsSameReference tx.old.conn.ghost_name tx.new.conn.ghost_name }
     ensures performs { Performs (λ c. with_receipts c first (bytes_of recs.now))
         (state S.Store tx.old.conn.now) (state S.Store tx.new.conn.now) result }
 {
@@ -125,8 +125,8 @@ pub(crate) fn put_receipts<S: Alter>(
     recs: &[Vec<u8>],
 ) -> Result<(), Refusal>
     requires fits { first + length recs.now ≤ INTERVALS }
-    requires idle { (state S.Store conn.old).in_transaction ≡ false }
-    ensures idle { (state S.Store conn.new).in_transaction ≡ false }
+    requires idle { IsIdle (state S.Store conn.old) }
+    ensures idle { IsIdle (state S.Store conn.new) }
     ensures transacts { Transacts (λ c. with_receipts c first (bytes_of recs.now))
         (state S.Store conn.old) (state S.Store conn.new) result }
 {
@@ -141,8 +141,8 @@ pub(crate) fn put_checkpoint<S: Alter>(
     x: u32,
     body: &[u8],
 ) -> Result<(), Refusal>
-    requires idle { (state S.Store conn.old).in_transaction ≡ false }
-    ensures idle { (state S.Store conn.new).in_transaction ≡ false }
+    requires idle { IsIdle (state S.Store conn.old) }
+    ensures idle { IsIdle (state S.Store conn.new) }
     ensures transacts { Transacts (λ c. with_checkpoint c x body.now) (state S.Store conn.old) (state S.Store conn.new) result }
 {
     let mut tx = conn.transaction();

@@ -3,7 +3,7 @@ ghost use Rattle.std.specs.Prelude.{◌≡◌, ◌+◌, ◌≤◌, ℕ, List, le
 ghost use Rattle.std.specs.Bool.{OnTrue, OnFalse};
 ghost use Rattle.std.specs.FinMap as finite;
 ghost use Rattle.om_tables.specs.steps.Halfway.{shown};
-ghost use Rattle.om_tables.specs.steps.Statements.{Asks, Told, ShowsAny, ShowsEffective, shown_entry};
+ghost use Rattle.om_tables.specs.steps.Statements.{Asks, Told, ShowsAny, ShowsEffective, shown_entry, IsIdle};
 ghost use Rattle.om_stable.specs.Content.{Records, IsFree, IsTaken, IsEffective, between, rows_of};
 ghost use Rattle.om_stable.specs.declared.stable.TheConstants.{INTERVALS};
 ghost use Rattle.sqlite.specs.Held.{state};
@@ -18,8 +18,8 @@ fn any_receipt_rows<S: Alter>(
     first: u32,
     last: u32,
 ) -> Result<Vec<Row>, Refusal>
-    requires idle { (state S.Store conn.old).in_transaction ≡ false }
-    ensures idle { (state S.Store conn.new).in_transaction ≡ false }
+    requires idle { IsIdle (state S.Store conn.old) }
+    ensures idle { IsIdle (state S.Store conn.new) }
     ensures found { Told (state S.Store conn.old) (state S.Store conn.new)
         (λ c. IfOk result (λ rows. ShowsAny c.receipts first last rows.items)) }
     ensures asks { Asks (state S.Store conn.old) (state S.Store conn.new) }
@@ -37,8 +37,8 @@ fn any_checkpoint_rows<S: Alter>(
     first: u32,
     last: u32,
 ) -> Result<Vec<Row>, Refusal>
-    requires idle { (state S.Store conn.old).in_transaction ≡ false }
-    ensures idle { (state S.Store conn.new).in_transaction ≡ false }
+    requires idle { IsIdle (state S.Store conn.old) }
+    ensures idle { IsIdle (state S.Store conn.new) }
     ensures found { Told (state S.Store conn.old) (state S.Store conn.new)
         (λ c. IfOk result (λ rows. ShowsAny c.checkpoints first last rows.items)) }
     ensures asks { Asks (state S.Store conn.old) (state S.Store conn.new) }
@@ -57,8 +57,8 @@ pub(crate) fn has_any_receipt<S: Alter>(
     count: usize,
 ) -> Result<bool, Refusal>
     requires fits { first + count ≤ INTERVALS }
-    requires idle { (state S.Store conn.old).in_transaction ≡ false }
-    ensures idle { (state S.Store conn.new).in_transaction ≡ false }
+    requires idle { IsIdle (state S.Store conn.old) }
+    ensures idle { IsIdle (state S.Store conn.new) }
     ensures taken { Told (state S.Store conn.old) (state S.Store conn.new)
         (λ c. IfOk result (λ r. OnTrue r (IsTaken c.receipts first count))) }
     ensures free { Told (state S.Store conn.old) (state S.Store conn.new)
@@ -75,8 +75,8 @@ pub(crate) fn has_any_receipt<S: Alter>(
 
 // Returns whether `x` has a checkpoint.
 pub(crate) fn has_checkpoint<S: Alter>(conn: &mut Connection<S>, x: u32) -> Result<bool, Refusal>
-    requires idle { (state S.Store conn.old).in_transaction ≡ false }
-    ensures idle { (state S.Store conn.new).in_transaction ≡ false }
+    requires idle { IsIdle (state S.Store conn.old) }
+    ensures idle { IsIdle (state S.Store conn.new) }
     ensures taken { Told (state S.Store conn.old) (state S.Store conn.new)
         (λ c. IfOk result (λ r. OnTrue r (IsTaken c.checkpoints x 1))) }
     ensures free { Told (state S.Store conn.old) (state S.Store conn.new)
@@ -110,8 +110,8 @@ fn receipt_rows<S: Alter>(
     after: u32,
     to: u32,
 ) -> Result<Vec<Row>, Refusal>
-    requires idle { (state S.Store conn.old).in_transaction ≡ false }
-    ensures idle { (state S.Store conn.new).in_transaction ≡ false }
+    requires idle { IsIdle (state S.Store conn.old) }
+    ensures idle { IsIdle (state S.Store conn.new) }
     ensures found { Told (state S.Store conn.old) (state S.Store conn.new)
         (λ c. IfOk result (λ rows. rows.items ≡ map shown (between c.receipts after to))) }
     ensures asks { Asks (state S.Store conn.old) (state S.Store conn.new) }
@@ -130,8 +130,8 @@ pub(crate) fn receipts<S: Alter>(
     after: u32,
     to: u32,
 ) -> Result<Vec<(u32, Vec<u8>)>, Refusal>
-    requires idle { (state S.Store conn.old).in_transaction ≡ false }
-    ensures idle { (state S.Store conn.new).in_transaction ≡ false }
+    requires idle { IsIdle (state S.Store conn.old) }
+    ensures idle { IsIdle (state S.Store conn.new) }
     ensures found { Told (state S.Store conn.old) (state S.Store conn.new)
         (λ c. IfOk result (λ found. rows_of found.items ≡ between c.receipts after to)) }
     ensures asks { Asks (state S.Store conn.old) (state S.Store conn.new) }
@@ -142,8 +142,8 @@ pub(crate) fn receipts<S: Alter>(
 
 // Returns the greatest checkpoint at or below `x`, as a row, if there is one.
 fn effective_rows<S: Alter>(conn: &mut Connection<S>, x: u32) -> Result<Vec<Row>, Refusal>
-    requires idle { (state S.Store conn.old).in_transaction ≡ false }
-    ensures idle { (state S.Store conn.new).in_transaction ≡ false }
+    requires idle { IsIdle (state S.Store conn.old) }
+    ensures idle { IsIdle (state S.Store conn.new) }
     ensures found { Told (state S.Store conn.old) (state S.Store conn.new)
         (λ c. IfOk result (λ rows. ShowsEffective c.checkpoints x rows.items)) }
     ensures asks { Asks (state S.Store conn.old) (state S.Store conn.new) }
@@ -174,8 +174,8 @@ pub(crate) fn effective<S: Alter>(
     conn: &mut Connection<S>,
     x: u32,
 ) -> Result<Option<(u32, Vec<u8>)>, Refusal>
-    requires idle { (state S.Store conn.old).in_transaction ≡ false }
-    ensures idle { (state S.Store conn.new).in_transaction ≡ false }
+    requires idle { IsIdle (state S.Store conn.old) }
+    ensures idle { IsIdle (state S.Store conn.new) }
     ensures effective { Told (state S.Store conn.old) (state S.Store conn.new)
         (λ c. IfOk result (λ found. IfSome found (λ e. IsEffective c.checkpoints x e.0))) }
     ensures bytes { Told (state S.Store conn.old) (state S.Store conn.new)

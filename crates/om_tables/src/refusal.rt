@@ -7,6 +7,7 @@ ghost use Rattle.sqlite.specs.State.{HasCleanDisk, ExecutesInside, FailsToQuery,
 ghost use Rattle.sqlite.specs.Steps.{FailsToCommit};
 ghost use Rattle.sqlite.specs.Values.{bound};
 ghost use Rattle.om_tables.specs.steps.Answers.{answered};
+ghost use Rattle.om_tables.specs.steps.Statements.{IsSameReference};
 
 use sqlite::types::{FromSql, ValueRef};
 use sqlite::{Alter, Connection, Error, ErrorCode, Row, Transaction};
@@ -66,7 +67,7 @@ pub(crate) fn execute<S: Alter>(
     sql: &str,
     params: &[ValueRef<'_>],
 ) -> Result<usize, Refusal>
-    ensures same_reference { tx.new.conn.ghost_name ≡ tx.old.conn.ghost_name }
+    ensures same_reference { IsSameReference tx.old.conn.ghost_name tx.new.conn.ghost_name }
     ensures ended { (state S.Store tx.old.conn.now).in_transaction ≡ false → tx.new.conn.now ≡ tx.old.conn.now }
     ensures runs { HasCleanDisk (state S.Store tx.new.conn.now) → IsTrue (state S.Store tx.old.conn.now).in_transaction
         → ExecutesInside 0 sql.now (bound params.now) (state S.Store tx.old.conn.now) (state S.Store tx.new.conn.now) (answered result) }

@@ -11,7 +11,7 @@ ghost use Rattle.om_stable.specs.declared.stable.TheConstants.{INTERVALS};
 ghost use Rattle.om_tables.specs.Refusals.{TellsRefusal, out_of_memory};
 ghost use Rattle.om_tables.specs.Tables.{no_schema};
 ghost use Rattle.om_tables.specs.Store.{content_in, IsFormed, HasBothTables, LeavesCommitted, is_sure};
-ghost use Rattle.om_tables.specs.steps.Statements.{CountsFault, Same, StaysSure};
+ghost use Rattle.om_tables.specs.steps.Statements.{CountsFault, Same, StaysSure, IsWithinIntervals};
 ghost use Rattle.sqlite.specs.Held.{state};
 
 use crate::creating::create_tables;
@@ -167,7 +167,7 @@ impl<S: Alter> SqlStable<S> {
 
     // Writes a batch into all five tables, all of it or nothing. A number that is taken answers Present.
     pub(crate) fn write_five(&mut self, batch: &WriteBatch<'_>) -> Result<(), StoreError>
-        requires receipts { batch.now.first + length batch.now.receipts.now ≤ INTERVALS }
+        requires receipts { IsWithinIntervals batch.now }
         requires outputs { batch.now.outputs.first + length batch.now.outputs.recs.now ≤ LEDGER_NUMBERS }
         requires senders { batch.now.senders.first + length batch.now.senders.recs.now ≤ LEDGER_NUMBERS }
         ensures tells { TellsRefusal self.new.last (result_err result) }
@@ -243,7 +243,7 @@ impl<S: Alter> SqlStable<S> {
 
     // Writes the records of a batch, all of them or none.
     fn write(&mut self, batch: &WriteBatch<'_>) -> Result<(), StoreError>
-        requires { batch.now.first + length batch.now.receipts.now ≤ INTERVALS }
+        requires { IsWithinIntervals batch.now }
         ensures put { IsTrue (is_sure (state S.Store self.new.connection)) → IsFormed (state S.Store self.old.connection)
             → OnOk result (content_in (state S.Store self.new.connection).now ≡ written batch.now (content_in (state S.Store self.old.connection).now)) }
         ensures refused { IsTrue (is_sure (state S.Store self.new.connection)) → IsFormed (state S.Store self.old.connection)

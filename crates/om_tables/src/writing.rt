@@ -1,6 +1,6 @@
 //! Batches of records are written.
 ghost use Rattle.std.specs.Prelude.{◌≡◌, ◌+◌, ◌≤◌, length, false};
-ghost use Rattle.om_tables.specs.steps.Statements.{Performs, Transacts};
+ghost use Rattle.om_tables.specs.steps.Statements.{Performs, Transacts, IsIdle, IsSameReference, IsWithinIntervals};
 ghost use Rattle.om_stable.specs.Batches.{pruned_to, with_new, written};
 ghost use Rattle.om_stable.specs.Content.{with_receipts, bytes_of};
 ghost use Rattle.om_stable.specs.declared.stable.TheConstants.{INTERVALS};
@@ -16,7 +16,7 @@ fn insert_new<S: Alter>(
     tx: &mut Transaction<'_, S>,
     checkpoint: Option<NewCheckpoint<'_>>,
 ) -> Result<(), Refusal>
-    ensures same_reference { tx.new.conn.ghost_name ≡ tx.old.conn.ghost_name }
+    ensures same_reference { IsSameReference tx.old.conn.ghost_name tx.new.conn.ghost_name }
     ensures performs { Performs (λ c. with_new c checkpoint.entry)
         (state S.Store tx.old.conn.now) (state S.Store tx.new.conn.now) result }
 {
@@ -27,7 +27,7 @@ fn insert_new<S: Alter>(
 }
 
 fn prune_to<S: Alter>(tx: &mut Transaction<'_, S>, to: Option<u32>) -> Result<(), Refusal>
-    ensures same_reference { tx.new.conn.ghost_name ≡ tx.old.conn.ghost_name }
+    ensures same_reference { IsSameReference tx.old.conn.ghost_name tx.new.conn.ghost_name }
     ensures performs { Performs (λ c. pruned_to c to)
         (state S.Store tx.old.conn.now) (state S.Store tx.new.conn.now) result }
 {
@@ -38,8 +38,8 @@ fn prune_to<S: Alter>(tx: &mut Transaction<'_, S>, to: Option<u32>) -> Result<()
 }
 
 fn insert_both<S: Alter>(tx: &mut Transaction<'_, S>, batch: &WriteBatch<'_>) -> Result<(), Refusal>
-    requires { batch.now.first + length batch.now.receipts.now ≤ INTERVALS }
-    ensures same_reference { tx.new.conn.ghost_name ≡ tx.old.conn.ghost_name }
+    requires { IsWithinIntervals batch.now }
+    ensures same_reference { IsSameReference tx.old.conn.ghost_name tx.new.conn.ghost_name }
     ensures performs { Performs (λ c. with_new (with_receipts c batch.now.first (bytes_of batch.now.receipts.now)) batch.now.checkpoint)
         (state S.Store tx.old.conn.now) (state S.Store tx.new.conn.now) result }
 {
@@ -52,8 +52,8 @@ pub(crate) fn write_records<S: Alter>(
     tx: &mut Transaction<'_, S>,
     batch: &WriteBatch<'_>,
 ) -> Result<(), Refusal>
-    requires { batch.now.first + length batch.now.receipts.now ≤ INTERVALS }
-    ensures same_reference { tx.new.conn.ghost_name ≡ tx.old.conn.ghost_name }
+    requires { IsWithinIntervals batch.now }
+    ensures same_reference { IsSameReference tx.old.conn.ghost_name tx.new.conn.ghost_name }
     ensures performs { Performs (written batch.now) (state S.Store tx.old.conn.now) (state S.Store tx.new.conn.now) result }
 {
     insert_both(tx, batch)?;
@@ -66,9 +66,9 @@ pub(crate) fn write<S: Alter>(
     conn: &mut Connection<S>,
     batch: &WriteBatch<'_>,
 ) -> Result<(), Refusal>
-    requires fits { batch.now.first + length batch.now.receipts.now ≤ INTERVALS }
-    requires idle { (state S.Store conn.old).in_transaction ≡ false }
-    ensures idle { (state S.Store conn.new).in_transaction ≡ false }
+    requires fits { IsWithinIntervals batch.now }
+    requires idle { IsIdle (state S.Store conn.old) }
+    ensures idle { IsIdle (state S.Store conn.new) }
     ensures transacts { Transacts (written batch.now) (state S.Store conn.old) (state S.Store conn.new) result }
 {
     let mut tx = conn.transaction();

@@ -6,8 +6,8 @@ ghost use Rattle.om_process.specs.Images.{program_of};
 ghost use Rattle.om_report.specs.Faults.{IsFaultOf};
 ghost use Rattle.om_report.specs.Harvests.{harvested};
 ghost use Rattle.om_report.specs.declared.fault.RunFault.TheVariants.{Memory};
-ghost use Rattle.om_node.specs.Nodes.{AreAlwaysClean};
-ghost use Rattle.om_cluster.specs.Ends.{IsGiven};
+ghost use Rattle.om_node.specs.Nodes.{AreAlwaysClean, HasCleanStores};
+ghost use Rattle.om_cluster.specs.Ends.{IsGiven, FitsCluster};
 ghost use Rattle.om_report.specs.Reports.{IsWholeReport};
 ghost use Rattle.om_threads.specs.Reports.{AreWholeOver};
 ghost use Rattle.om_threads.specs.steps.Ends.{AreParts};
@@ -140,9 +140,9 @@ fn run_named<
     requires named { blank ≡ K.cell }
     requires size { blank.n ≡ length config.now.images.items }
     requires some { 1 ≤ length config.now.images.items }
-    requires few { length config.now.images.items ≤ MAX_PROCESSES }
+    requires few { FitsCluster config.now }
     requires programs { K.programs ≡ map program_of config.now.images.items }
-    requires clean { K.OverClean → AreAlwaysClean O.Store.is_clean }
+    requires clean { HasCleanStores K.OverClean O.Store.is_clean }
     ensures report { IfOk result (λ r. IsWholeReport K.OverClean K.programs r.0) }
     ensures stores { IfOk result (λ r. length r.1.items ≡ length config.now.images.items) }
     ensures whole { IfOk result (λ r. AreWholeOver O.Store.is_clean config.now.images.items r.0.statuses.items
@@ -192,7 +192,7 @@ pub fn run_and_keep_stores<
     opener: &O,
 ) -> Result<(Report, Vec<O::Store>), RunFault>
     requires some { 1 ≤ length config.now.images.items }
-    requires few { length config.now.images.items ≤ MAX_PROCESSES }
+    requires few { FitsCluster config.now }
     ensures report { IfOk result (λ r. IsWholeReport (AreAlwaysClean O.Store.is_clean) (map program_of config.now.images.items) r.0) }
     ensures stores { IfOk result (λ r. length r.1.items ≡ length config.now.images.items) }
     ensures whole { IfOk result (λ r. AreWholeOver O.Store.is_clean config.now.images.items r.0.statuses.items r.0.released.items r.1.items) }
@@ -232,7 +232,7 @@ pub fn run_and_keep_witnesses<
     opener: &O,
 ) -> Result<(Report, Vec<Witness>), RunFault>
     requires some { 1 ≤ length config.now.images.items }
-    requires few { length config.now.images.items ≤ MAX_PROCESSES }
+    requires few { FitsCluster config.now }
     ensures report { IfOk result (λ r. IsWholeReport (AreAlwaysClean O.Store.is_clean) (map program_of config.now.images.items) r.0) }
     ensures given { OnOk result (IsGiven config.now) }
     ensures fault { IfErr result (IsFaultOf (length config.now.images.items)) }

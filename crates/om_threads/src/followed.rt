@@ -6,10 +6,11 @@ ghost use Rattle.om_process.specs.Images.{program_of};
 ghost use Rattle.om_following.specs.Following.{IsFollowed};
 ghost use Rattle.om_report.specs.Telling.{AreInOrder, AreToldMade, Told};
 ghost use Rattle.om_following.specs.declared.follower.FollowFault.TheVariants.{Unwanted};
-ghost use Rattle.om_node.specs.Nodes.{AreAlwaysClean};
+ghost use Rattle.om_node.specs.Nodes.{AreAlwaysClean, HasCleanStores};
 ghost use Rattle.om_report.specs.Reports.{IsToldReport};
 ghost use Rattle.om_threads.specs.steps.Ends.{AreParts};
 ghost use Rattle.om_threads.specs.steps.Starting.{IsNamedFor};
+ghost use Rattle.om_cluster.specs.Ends.{FitsCluster};
 
 use crate::cluster::{run_workers, settled};
 use crate::main_task::MainTask;
@@ -90,9 +91,9 @@ fn run_named<
     requires named { blank ≡ K.cell }
     requires size { blank.n ≡ length config.now.images.items }
     requires some { 1 ≤ length config.now.images.items }
-    requires few { length config.now.images.items ≤ MAX_PROCESSES }
+    requires few { FitsCluster config.now }
     requires programs { K.programs ≡ map program_of config.now.images.items }
-    requires clean { K.OverClean → AreAlwaysClean O.Store.is_clean }
+    requires clean { HasCleanStores K.OverClean O.Store.is_clean }
     requires start { F.Tells follower follower [] }
     ensures told { IfOk result.0 (λ report. (told : List Told) × F.Tells follower result.1 told
         × IsToldReport K.OverClean K.programs report.statuses.items report.front told) }
@@ -154,7 +155,7 @@ pub fn run_and_follow<
     follower: F,
 ) -> (Result<FollowedReport, FollowFault>, F)
     requires some { 1 ≤ length config.now.images.items }
-    requires few { length config.now.images.items ≤ MAX_PROCESSES }
+    requires few { FitsCluster config.now }
     requires start { F.Tells follower follower [] }
     ensures told { IfOk result.0 (λ report. (told : List Told) × F.Tells follower result.1 told
         × IsToldReport (AreAlwaysClean O.Store.is_clean) (map program_of config.now.images.items) report.statuses.items report.front told) }

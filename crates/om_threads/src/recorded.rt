@@ -4,8 +4,8 @@ ghost use Rattle.std.specs.Prelude.{◌≡◌, ◌≤◌, IfErr, IfOk, OnOk, len
 ghost use Rattle.om_interval.specs.declared.pid.TheConstants.{MAX_PROCESSES};
 ghost use Rattle.om_process.specs.Images.{program_of};
 ghost use Rattle.om_report.specs.Faults.{IsFaultOf};
-ghost use Rattle.om_node.specs.Nodes.{AreAlwaysClean};
-ghost use Rattle.om_cluster.specs.Ends.{IsGiven};
+ghost use Rattle.om_node.specs.Nodes.{AreAlwaysClean, HasCleanStores};
+ghost use Rattle.om_cluster.specs.Ends.{IsGiven, FitsCluster};
 ghost use Rattle.om_report.specs.Reports.{IsWholeReport};
 ghost use Rattle.om_threads.specs.steps.Ends.{AreParts};
 ghost use Rattle.om_threads.specs.steps.Starting.{IsNamedFor};
@@ -94,9 +94,9 @@ fn run_named<
     requires named { blank ≡ K.cell }
     requires size { blank.n ≡ length config.now.images.items }
     requires some { 1 ≤ length config.now.images.items }
-    requires few { length config.now.images.items ≤ MAX_PROCESSES }
+    requires few { FitsCluster config.now }
     requires programs { K.programs ≡ map program_of config.now.images.items }
-    requires clean { K.OverClean → AreAlwaysClean O.Store.is_clean }
+    requires clean { HasCleanStores K.OverClean O.Store.is_clean }
     ensures report { IfOk result.0 (IsWholeReport K.OverClean K.programs) }
     ensures given { OnOk result.0 (IsGiven config.now) }
     ensures fault { IfErr result.0 (IsFaultOf (length config.now.images.items)) }
@@ -154,7 +154,7 @@ pub fn run_and_record<
     scribe: S,
 ) -> (Result<Report, RunFault>, S)
     requires some { 1 ≤ length config.now.images.items }
-    requires few { length config.now.images.items ≤ MAX_PROCESSES }
+    requires few { FitsCluster config.now }
     ensures report { IfOk result.0 (IsWholeReport (AreAlwaysClean O.Store.is_clean) (map program_of config.now.images.items)) }
     ensures given { OnOk result.0 (IsGiven config.now) }
     ensures fault { IfErr result.0 (IsFaultOf (length config.now.images.items)) }

@@ -8,7 +8,7 @@ ghost use Rattle.om_report.specs.Faults.{IsFaultOf};
 ghost use Rattle.om_report.specs.declared.fault.RunFault.TheVariants.{Memory};
 ghost use Rattle.om_threads.specs.steps.Ends.{AreEndsOf, AreOwnEnds, IsPromised};
 ghost use Rattle.om_cluster.specs.Ends.{IsEndOf, IsOwnEnd};
-ghost use Rattle.om_node.specs.Nodes.{AreAlwaysClean};
+ghost use Rattle.om_node.specs.Nodes.{AreAlwaysClean, HasCleanStores};
 ghost use Rattle.om_threads.specs.steps.Starting.{CanStart, IsNamedFor};
 ghost use Rattle.om_links.specs.Network.{IsNetwork};
 ghost use Rattle.om_links.specs.Wiring.{HasEnds};
@@ -64,7 +64,7 @@ fn start<
     job: Job<'s, K, J, O::Store>,
 ) -> Option<Handle<'s, K, O::Store>>
     requires program { slice_get K.programs job.links.ends.own ≡ Some (program_of image.now) }
-    requires clean { K.OverClean → AreAlwaysClean O.Store.is_clean }
+    requires clean { HasCleanStores K.OverClean O.Store.is_clean }
     ensures config { IfSome result (λ h. h.promise.config.now ≡ cluster.entry.now.config.now) }
     ensures image { IfSome result (λ h. h.promise.image.now ≡ image.entry.now) }
     ensures inboxes { IfSome result (λ h. h.promise.inboxes.now ≡ job.entry.links.ends.lines) }
@@ -84,7 +84,7 @@ fn start<
             end,
             move ||
                 requires program { slice_get K.programs job.links.ends.own ≡ Some (program_of image.now) }
-                requires clean { K.OverClean → AreAlwaysClean O.Store.is_clean }
+                requires clean { HasCleanStores K.OverClean O.Store.is_clean }
             { W::run(cluster, image, job) },
         )
         .ok()
@@ -165,7 +165,7 @@ fn start_apart<
 ) -> Option<Handle<'s, K, O::Store>>
     requires sized { links.ends.n ≡ K.cell.n }
     requires program { slice_get K.programs links.ends.own ≡ Some (program_of image.now) }
-    requires clean { K.OverClean → AreAlwaysClean O.Store.is_clean }
+    requires clean { HasCleanStores K.OverClean O.Store.is_clean }
     requires book { opened.seen.book ≡ J.book }
     ensures config { IfSome result (λ h. h.promise.config.now ≡ cluster.entry.now.config.now) }
     ensures image { IfSome result (λ h. h.promise.image.now ≡ image.entry.now) }

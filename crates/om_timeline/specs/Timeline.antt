@@ -7,6 +7,8 @@ use Rattle.om_world.specs.declared.event.Event.{Event}
 use Rattle.om_world.specs.World.{WorldState}
 use Rattle.om_timeline.specs.declared.deed.Deed.{Deed}
 use Rattle.om_timeline.specs.Deeds.{at_position}
+use Rattle.om_timeline.specs.declared.tape.Peek.{Peek}
+use Rattle.om_timeline.specs.declared.tape.Peek.TheVariants.{NotYet}
 
 pub record TimelineState : Type 0 where
   pub process : ℕ
@@ -56,3 +58,7 @@ pub record IsBegin (t : TimelineState) (p : ℕ) (world : WorldState) (events : 
 abbrev pub told_timeline : ℕ → ℕ → State → List Event → List Deed → TimelineState
 told_timeline p n first events deeds =
     record { process = p; n = n; first = first; begun = None; events = events; deeds = deeds; event = 0; turns = 0 }
+
+-- where nothing is known yet of what comes, nothing changed
+abbrev pub StaysUnknown : {T : Type 0} → T → Peek → T → Type 0
+StaysUnknown old look new = look ≡ NotYet → new ≡ old

@@ -5,7 +5,7 @@ ghost use Rattle.om_world.specs.Holds.{Holds};
 ghost use Rattle.om_world.specs.World.{IsKnown, WorldState};
 ghost use Rattle.om_timeline.specs.declared.deed.Deed.{Deed};
 ghost use Rattle.om_timeline.specs.declared.tape.Peek.{Peek};
-ghost use Rattle.om_timeline.specs.Timeline.{CanBegin};
+ghost use Rattle.om_timeline.specs.Timeline.{CanBegin, StaysUnknown};
 ghost use Rattle.om_timeline.specs.steps.Filmed.{HasSeat, IsDeed, IsFilmed, IsMachineAt, IsPlayedDeed, IsRead};
 
 use crate::alone::copy_of;
@@ -221,7 +221,7 @@ impl Tape {
     pub(crate) fn film(&mut self, alloc: Global) -> Result<Peek, PlayFault>
         ensures next { IfOk result (λ look. look ≡ Peek.Next
             → (deed : Deed) × (self.new ≡ record self.old { deeds = self.old.deeds ++ deed ∷ [] })) }
-        ensures not_yet { IfOk result (λ look. look ≡ Peek.NotYet → self.new ≡ self.old) }
+        ensures not_yet { IfOk result (λ look. StaysUnknown self.old look self.new) }
         ensures end { IfOk result (λ look. look ≡ Peek.End → self.new ≡ self.old) }
         ensures all { IfOk result (λ look. look ≡ Peek.End → length self.old.deeds ≡ length self.old.events) }
         ensures refused { OnErr result (self.new ≡ self.old) }

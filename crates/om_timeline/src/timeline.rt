@@ -9,7 +9,7 @@ ghost use Rattle.om_timeline.specs.declared.tape.Peek.{Peek};
 ghost use Rattle.om_timeline.specs.Alone.{move_alone};
 ghost use Rattle.om_timeline.specs.Deeds.{turns_at};
 ghost use Rattle.om_timeline.specs.Shown.{ShownAt};
-ghost use Rattle.om_timeline.specs.Timeline.{CanBegin, IsBegin, IsUpTo, at, machine_here, told_timeline, with_deeds};
+ghost use Rattle.om_timeline.specs.Timeline.{CanBegin, IsBegin, IsUpTo, at, machine_here, told_timeline, with_deeds, StaysUnknown};
 ghost use Rattle.om_timeline.specs.steps.Kept.{IsComing};
 ghost use Rattle.om_timeline.specs.steps.Placed.{IsLeft, StaysOf};
 
@@ -191,7 +191,7 @@ impl Timeline {
     pub fn look(&mut self, alloc: Global) -> Result<Peek, PlayFault>
         ensures more { IfOk result (λ look. (deeds : List Deed) × (self.new ≡ with_deeds self.old (self.old.deeds ++ deeds))) }
         ensures there { IfOk result (λ look. look ≡ Peek.Next → self.new.event < length self.new.deeds) }
-        ensures not_yet { IfOk result (λ look. look ≡ Peek.NotYet → self.new ≡ self.old) }
+        ensures not_yet { IfOk result (λ look. StaysUnknown self.old look self.new) }
         ensures end { IfOk result (λ look. look ≡ Peek.End → length self.old.events ≤ self.old.event) }
         ensures refused { OnErr result (self.new ≡ self.old) }
     {
@@ -241,7 +241,7 @@ impl Timeline {
         requires { length self.old.deeds ≤ self.old.event }
         ensures more { IfOk result (λ look. (deeds : List Deed) × (self.new ≡ with_deeds self.old (self.old.deeds ++ deeds))) }
         ensures there { IfOk result (λ look. look ≡ Peek.Next → self.new.event < length self.new.deeds) }
-        ensures not_yet { IfOk result (λ look. look ≡ Peek.NotYet → self.new ≡ self.old) }
+        ensures not_yet { IfOk result (λ look. StaysUnknown self.old look self.new) }
         ensures end { IfOk result (λ look. look ≡ Peek.End → length self.old.events ≤ self.old.event) }
         ensures refused { OnErr result (self.new ≡ self.old) }
     {

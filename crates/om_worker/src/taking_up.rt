@@ -8,7 +8,7 @@ ghost use Rattle.om_interval.specs.declared.pid.TheConstants.{MAX_PROCESSES};
 ghost use Rattle.om_process.specs.Images.{program_of};
 ghost use Rattle.om_node.specs.Stores.{AreNeverClean};
 ghost use Rattle.om_report.specs.Faults.{IsFaultBy};
-ghost use Rattle.om_node.specs.Nodes.{AreAlwaysClean};
+ghost use Rattle.om_node.specs.Nodes.{AreAlwaysClean, HasCleanStores};
 ghost use Rattle.om_worker.specs.steps.Refusals.{refusal_of_found};
 ghost use Rattle.om_links.specs.Links.{KeepsEnds};
 
@@ -233,7 +233,7 @@ fn take_in<'a, K: Naming, R: Wait + Clock, G, O: StoreMaker<R>>(
 ) -> Result<u64, RunFault>
     requires few { K.cell.n ≤ MAX_PROCESSES }
     requires unsure { AreNeverClean O.Store.is_clean }
-    requires clean { K.OverClean → AreAlwaysClean O.Store.is_clean }
+    requires clean { HasCleanStores K.OverClean O.Store.is_clean }
     ensures same { KeepsEnds worker.old.links worker.new.links }
     ensures left { IfOk result (λ left. left ≤ turns) }
     ensures fault { IfErr result (IsFaultBy worker.old.links.ends.own) }
@@ -262,7 +262,7 @@ fn taken_in<'a, K: Naming, R: Wait + Clock, G, O: StoreMaker<R>>(
 ) -> Result<(O::Store, u64), RunFault>
     requires few { K.cell.n ≤ MAX_PROCESSES }
     requires unsure { AreNeverClean O.Store.is_clean }
-    requires clean { K.OverClean → AreAlwaysClean O.Store.is_clean }
+    requires clean { HasCleanStores K.OverClean O.Store.is_clean }
     ensures same { KeepsEnds worker.old.links worker.new.links }
     ensures left { IfOk result (λ made. made.1 ≤ cluster.now.config.now.turns) }
     ensures fault { IfErr result (IsFaultBy worker.old.links.ends.own) }
@@ -290,7 +290,7 @@ pub(crate) fn take_up<'a, K: Naming, J: Series, R: Wait + Clock, G, O: StoreMake
 ) -> Result<(DownNode<'a, J, O::Store>, u64), RunFault>
     requires few { K.cell.n ≤ MAX_PROCESSES }
     requires unsure { AreNeverClean O.Store.is_clean }
-    requires clean { K.OverClean → AreAlwaysClean O.Store.is_clean }
+    requires clean { HasCleanStores K.OverClean O.Store.is_clean }
     ensures same { KeepsEnds worker.old.links worker.new.links }
     ensures member { IfOk result (λ made. made.0 ≡ record { program = program_of image.entry.now; own = worker.old.links.ends.own; n = K.cell.n }) }
     ensures left { IfOk result (λ made. made.1 ≤ cluster.now.config.now.turns) }

@@ -10,6 +10,7 @@ ghost use Rattle.om_worker_parts.specs.Places.{IsProcessOf, IsLanded, member_of,
 ghost use Rattle.om_worker.specs.steps.Turning.{HasNothingToSay, HasReported, HasRun, IsOffered, IsTurnOf};
 ghost use Rattle.om_links.specs.Wiring.{HasEnds};
 ghost use Rattle.om_links.specs.Links.{KeepsEnds};
+ghost use Rattle.om_node.specs.Nodes.{KeepsMember};
 
 mod resting;
 mod rounds;
@@ -334,7 +335,7 @@ impl<'a, K: Naming> Worker<'a, K> {
     ) -> Result<TurnOutcome, WorkerFault>
         requires { IsProcessOf S.is_clean K.OverClean K.programs K.cell.n self.old.links.ends.own node.old.member }
         ensures same { KeepsEnds self.old.links self.new.links }
-        ensures member { node.new.member ≡ node.old.member }
+        ensures member { KeepsMember node.old node.new }
         ensures landed { IfOk result (λ turn_outcome. IsLandedAt turn_outcome node.new) }
     {
         let more = self.left.min(ROW).saturating_sub(1);
@@ -366,7 +367,7 @@ impl<'a, K: Naming> Worker<'a, K> {
     ) -> Result<TurnOutcome, WorkerFault>
         requires { IsProcessOf S.is_clean K.OverClean K.programs K.cell.n self.old.links.ends.own node.old.member }
         ensures same { KeepsEnds self.old.links self.new.links }
-        ensures member { node.new.member ≡ node.old.member }
+        ensures member { KeepsMember node.old node.new }
         ensures landed { IfOk result (λ turn_outcome. IsLandedAt turn_outcome node.new) }
     {
         self.storing.look(rt, node, &mut self.diary)?;
@@ -389,7 +390,7 @@ impl<'a, K: Naming> Worker<'a, K> {
     ) -> Result<TurnOutcome, WorkerFault>
         requires { IsProcessOf S.is_clean K.OverClean K.programs K.cell.n self.old.links.ends.own node.old.member }
         ensures same { KeepsEnds self.old.links self.new.links }
-        ensures member { node.new.member ≡ node.old.member }
+        ensures member { KeepsMember node.old node.new }
     {
         let status = self.run(rt, alloc, node)?;
         let called = self.manager_link.is_called(self.manager_link.failures());
@@ -421,7 +422,7 @@ impl<'a, K: Naming> Worker<'a, K> {
         requires own { node.old.member.own ≡ self.old.links.ends.own }
         requires size { node.old.member.n ≡ K.cell.n }
         ensures same { KeepsEnds self.old.links self.new.links }
-        ensures member { node.new.member ≡ node.old.member }
+        ensures member { KeepsMember node.old node.new }
         ensures ran { IfOk result (λ status. HasRun node.old.core self.old.config.now.fuel status node.new.core.now) }
         ensures stored { IfOk result (λ status. IsEnd status → node.new.core.log ≡ []) }
         ensures landed { IfOk result (λ status. IsEnd status → node.new.away ≡ false) }
@@ -470,7 +471,7 @@ impl<'a, K: Naming> Worker<'a, K> {
         node: &mut Node<'a, J, S>,
     ) -> Result<(), WorkerFault>
         ensures same { KeepsEnds self.old.links self.new.links }
-        ensures member { node.new.member ≡ node.old.member }
+        ensures member { KeepsMember node.old node.new }
         ensures now { OnOk result (node.new.core.now ≡ node.old.core.now) }
         ensures log { OnOk result (node.new.core.log ≡ []) }
         ensures landed { OnOk result (node.new.away ≡ false) }
@@ -492,7 +493,7 @@ impl<'a, K: Naming> Worker<'a, K> {
     ) -> Result<ManagerPhase, WorkerFault>
         requires { IsProcessOf S.is_clean K.OverClean K.programs K.cell.n self.old.links.ends.own node.old.member }
         ensures same { KeepsEnds self.old.links self.new.links }
-        ensures member { node.new.member ≡ node.old.member }
+        ensures member { KeepsMember node.old node.new }
         ensures reported { IfOk result (λ phase. HasNothingToSay self.old.manager_link.handed status node.old.core phase node.new.core
             ⊎ HasReported K.cell.n self.old.manager_link.pid self.old.manager_link.round status node.old.core phase) }
         ensures idle { let link = self.old.manager_link in (IsEnd status → ⊥) → called ≡ false → node.old.core.pending ≡ []
@@ -518,7 +519,7 @@ impl<'a, K: Naming> Worker<'a, K> {
     ) -> Result<ManagerPhase, WorkerFault>
         requires { IsProcessOf S.is_clean K.OverClean K.programs K.cell.n self.old.links.ends.own node.old.member }
         ensures same { KeepsEnds self.old.links self.new.links }
-        ensures member { node.new.member ≡ node.old.member }
+        ensures member { KeepsMember node.old node.new }
         ensures reported { IfOk result
             (HasReported K.cell.n self.old.manager_link.pid self.old.manager_link.round status node.old.core) }
     {
@@ -563,7 +564,7 @@ impl<'a, K: Naming> Worker<'a, K> {
         status: Status,
     ) -> Result<TurnOutcome, WorkerFault>
         ensures same { KeepsEnds self.old.links self.new.links }
-        ensures member { node.new.member ≡ node.old.member }
+        ensures member { KeepsMember node.old node.new }
         ensures offered { OnOk result ((node.new.core ≡ node.old.core)
             ⊎ ((message : Message) × IsOffered node.old.core message node.new.core.now)) }
     {
@@ -612,7 +613,7 @@ impl<'a, K: Naming> Worker<'a, K> {
         taken: &Taken,
     ) -> Result<TurnOutcome, WorkerFault>
         ensures same { KeepsEnds self.old.links self.new.links }
-        ensures member { node.new.member ≡ node.old.member }
+        ensures member { KeepsMember node.old node.new }
         ensures offered { OnOk result (IsOffered node.old.core taken.now node.new.core.now) }
     {
         let message = taken.message();

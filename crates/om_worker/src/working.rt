@@ -4,9 +4,9 @@ ghost use Rattle.std.specs.Prelude.{◌≡◌, ◌<◌, ◌≤◌, IfErr, IfOk, 
 ghost use Rattle.om_process.specs.Images.{program_of};
 ghost use Rattle.om_process.specs.declared.image.Image.{Image};
 ghost use Rattle.om_node.specs.Stores.{AreNeverClean};
-ghost use Rattle.om_cluster.specs.Ends.{IsEndOf, IsOwnEnd};
+ghost use Rattle.om_cluster.specs.Ends.{IsEndOf, IsOwnEnd, IsProgramOf};
 ghost use Rattle.om_report.specs.Faults.{IsFaultBy};
-ghost use Rattle.om_node.specs.Nodes.{AreAlwaysClean};
+ghost use Rattle.om_node.specs.Nodes.{AreAlwaysClean, HasCleanStores};
 ghost use Rattle.om_worker.specs.steps.Turning.{EndsOf};
 
 use crate::taking_up::take_up;
@@ -49,8 +49,8 @@ fn work_anew<'a, K: Naming, J: Series, R: Wait + Clock, G: Gate, O: StoreMaker<R
     image: &'a Image,
     job: Job<'a, K, J, O::Store>,
 ) -> Result<Finished<K, O::Store>, RunFault>
-    requires program { slice_get K.programs job.links.ends.own ≡ Some (program_of image.now) }
-    requires clean { K.OverClean → AreAlwaysClean O.Store.is_clean }
+    requires program { IsProgramOf K.programs job.links.ends.own image.now }
+    requires clean { HasCleanStores K.OverClean O.Store.is_clean }
     ensures end { EndsOf O.Store.is_clean (program_of image.entry.now) job.entry.links.ends result }
     ensures own { IsOwnEnd cluster.now.config.now job.entry.links.ends.own result }
 {
@@ -92,8 +92,8 @@ fn work_on<'a, K: Naming, J: Series, R: Wait + Clock, G: Gate, O: StoreMaker<R>>
     job: Job<'a, K, J, O::Store>,
 ) -> Result<Finished<K, O::Store>, RunFault>
     requires unsure { AreNeverClean O.Store.is_clean }
-    requires program { slice_get K.programs job.links.ends.own ≡ Some (program_of image.now) }
-    requires clean { K.OverClean → AreAlwaysClean O.Store.is_clean }
+    requires program { IsProgramOf K.programs job.links.ends.own image.now }
+    requires clean { HasCleanStores K.OverClean O.Store.is_clean }
     ensures end { EndsOf O.Store.is_clean (program_of image.entry.now) job.entry.links.ends result }
     ensures own { IsOwnEnd cluster.now.config.now job.entry.links.ends.own result }
 {
@@ -114,8 +114,8 @@ fn work_from<'a, K: Naming, J: Series, R: Wait + Clock, G: Gate, O: StoreMaker<R
     kills: Vec<u32>,
 ) -> Result<Finished<K, O::Store>, RunFault>
     requires unsure { AreNeverClean O.Store.is_clean }
-    requires program { slice_get K.programs job.links.ends.own ≡ Some (program_of image.now) }
-    requires clean { K.OverClean → AreAlwaysClean O.Store.is_clean }
+    requires program { IsProgramOf K.programs job.links.ends.own image.now }
+    requires clean { HasCleanStores K.OverClean O.Store.is_clean }
     ensures end { EndsOf O.Store.is_clean (program_of image.entry.now) job.entry.links.ends result }
     ensures given { OnOk result (1 ≤ cluster.now.config.now.turns) }
     ensures fault { IfErr result (IsFaultBy job.entry.links.ends.own) }
@@ -162,8 +162,8 @@ fn work<'a, K: Naming, J: Series, R: Wait + Clock, G: Gate, O: StoreMaker<R>>(
     image: &'a Image,
     job: Job<'a, K, J, O::Store>,
 ) -> Result<Finished<K, O::Store>, RunFault>
-    requires program { slice_get K.programs job.links.ends.own ≡ Some (program_of image.now) }
-    requires clean { K.OverClean → AreAlwaysClean O.Store.is_clean }
+    requires program { IsProgramOf K.programs job.links.ends.own image.now }
+    requires clean { HasCleanStores K.OverClean O.Store.is_clean }
     ensures end { EndsOf O.Store.is_clean (program_of image.entry.now) job.entry.links.ends result }
     ensures own { IsOwnEnd cluster.now.config.now job.entry.links.ends.own result }
 {

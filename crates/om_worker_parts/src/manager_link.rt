@@ -11,6 +11,7 @@ ghost use Rattle.om_report.specs.Harvests.{AreAllOf};
 ghost use Rattle.om_worker_parts.specs.Acts.{AreLimits, HasDeclared, HasHandedOver, HasHeard, HasJoined, HasMet, HasOffered, HasPruned, HasRefused, HasReleasedAnother, HasWaited, HasWithdrawn, IsStanding};
 ghost use Rattle.om_report.specs.Locks.{UnderLock};
 ghost use Rattle.om_worker_parts.specs.Places.{IsProcessOf};
+ghost use Rattle.om_node.specs.Nodes.{KeepsMember};
 
 use om_board::{Board, Front, Naming, Pass, Shared};
 use om_interval::{Bounds, Pid, Starts, Verdict};
@@ -163,7 +164,7 @@ impl<'a, K: Naming> ManagerLink<'a, K> {
         requires { IsProcessOf S.is_clean K.OverClean K.programs K.cell.n self.old.pid node.old.member }
         ensures pid { self.new.pid ≡ self.old.pid }
         ensures round { self.new.round ≡ self.old.round }
-        ensures member { node.new.member ≡ node.old.member }
+        ensures member { KeepsMember node.old node.new }
         ensures away { node.new.away ≡ node.old.away }
         ensures sound { IsBoard K.cell.n locked.old.board.now }
         ensures over { OnOk result (HasHandedOver locked.old.board.now.manager self.old.pid node.old.core
@@ -229,7 +230,7 @@ impl<'a, K: Naming> ManagerLink<'a, K> {
         requires checkpoint { IsTrue has_checkpoint ↔ Any (λ row. IsTrue row.ckpt) node.old.core.pending }
         ensures pid { self.new.pid ≡ self.old.pid }
         ensures round { self.new.round ≡ self.old.round }
-        ensures member { node.new.member ≡ node.old.member }
+        ensures member { KeepsMember node.old node.new }
         ensures sound { IsBoard K.cell.n locked.old.board.now }
         ensures limits { IfOk result (λ met. IfSome met.1 (λ l. length l.bounds.got ≡ K.cell.n)) }
         ensures met { IfOk result (λ met. HasMet locked.old.board.now self.old.pid self.old.round ended node.old.core met.0 met.1
@@ -260,7 +261,7 @@ impl<'a, K: Naming> ManagerLink<'a, K> {
         requires { IsProcessOf S.is_clean K.OverClean K.programs K.cell.n self.old.pid node.old.member }
         ensures pid { self.new.pid ≡ self.old.pid }
         ensures round { self.new.round ≡ self.old.round }
-        ensures member { node.new.member ≡ node.old.member }
+        ensures member { KeepsMember node.old node.new }
         ensures limits { IfOk result (λ met. IfSome met.1 (λ l. length l.bounds.got ≡ K.cell.n)) }
         ensures met { IfOk result (λ met. UnderLock K.cell.n (λ before after.
             HasMet before self.old.pid self.old.round ended node.old.core met.0 met.1 after node.new.core)) }
@@ -288,7 +289,7 @@ impl<'a, K: Naming> ManagerLink<'a, K> {
         requires { IsProcessOf S.is_clean K.OverClean K.programs K.cell.n self.old.pid node.old.member }
         ensures pid { self.new.pid ≡ self.old.pid }
         ensures round { self.new.round ≡ self.old.round }
-        ensures member { node.new.member ≡ node.old.member }
+        ensures member { KeepsMember node.old node.new }
         ensures away { node.new.away ≡ node.old.away }
         ensures sound { IsBoard K.cell.n locked.old.board.now }
         ensures joined { OnOk result
@@ -318,7 +319,7 @@ impl<'a, K: Naming> ManagerLink<'a, K> {
         requires { IsProcessOf S.is_clean K.OverClean K.programs K.cell.n self.old.pid node.old.member }
         ensures pid { self.new.pid ≡ self.old.pid }
         ensures round { self.new.round ≡ self.old.round }
-        ensures member { node.new.member ≡ node.old.member }
+        ensures member { KeepsMember node.old node.new }
         ensures away { node.new.away ≡ node.old.away }
         ensures joined { OnOk result (UnderLock K.cell.n (λ before after.
             HasJoined before.manager self.old.pid node.old.core after.manager node.new.core)) }

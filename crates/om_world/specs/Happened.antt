@@ -104,8 +104,7 @@ TrimHappened old p new =
 
 -- a store is pruned to its effective checkpoint
 abbrev pub StorePruned : WorldState → ℕ → Content → Content → Type 0
-StorePruned new p before after =
-    (c : ℕ) × IsEffective new.manager.rows p (recovered new.manager p) c × (after ≡ kept_by_prune before c)
+StorePruned new p before after = (c : ℕ) × IsEffective new.manager.rows p (recovered new.manager p) c × (after ≡ kept_by_prune before c)
 
 -- the manager is pruned, and each store as is said
 pub record Prunes (Did : ℕ → Content → Content → Type 0) (old new : WorldState) : Type 0 where
@@ -178,8 +177,7 @@ PruneRefused old why new = ⊥
 -- the whole does not start anew, and all stays but how the stores stand. It is unsettled where a process is not back from the last
 -- finished round, and another may have stored since
 abbrev pub RestartRefused : WorldState → Refusal → WorldState → Type 0
-RestartRefused old refusals.Unsettled new =
-    ((p : ℕ) × (p < length old.programs) × HasNews old p) × (new ≡ old) × (old.since.stored ≡ true)
+RestartRefused old refusals.Unsettled new = ((p : ℕ) × (p < length old.programs) × HasNews old p) × (new ≡ old) × (old.since.stored ≡ true)
 RestartRefused old refusals.Fault new = ((p : ℕ) × HasFailed old p new) × IsSame old new
 RestartRefused old refusals.Memory new = IsSame old new
 RestartRefused old why new = ⊥

@@ -39,8 +39,7 @@ pub record IsLoadable (program : Program) : Type 0 where
   pub fits : length program.image ≤ program.size
 
 -- why a process of this program was not started over a store, by the store before and after
-abbrev pub IsWhy : {S : Type 0} → (S → Content) → (S → ℕ) → (S → Bool) → (S → Type 0)
-    → Program → StartFault → S → S → Type 0
+abbrev pub IsWhy : {S : Type 0} → (S → Content) → (S → ℕ) → (S → Bool) → (S → Type 0) → Program → StartFault → S → S → Type 0
 IsWhy content failed is_clean IsSound program BadPlace before after = ⊥
 IsWhy content failed is_clean IsSound program BadSize before after = ¬ IsMemorySize program.size
 IsWhy content failed is_clean IsSound program ImageTooLong before after = IsMemorySize program.size × (program.size < length program.image)

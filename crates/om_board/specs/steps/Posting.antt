@@ -105,3 +105,7 @@ pub record IsWriter (cell : CellName) (table : TableId) (view : View) (version :
   pub last : IsLastOf view.seen (words_in front)
   pub places : length front.vec ≡ cell.n
   pub version_is : version ≡ front.version
+
+-- a pass is of the cell that another one is of
+abbrev pub IsOfCell : TableId → TableId → Type 0
+IsOfCell before after = after ≡ before

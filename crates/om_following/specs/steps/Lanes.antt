@@ -1,5 +1,5 @@
 -- A follower while the cluster runs.
-use Rattle.std.specs.Prelude.{◌≡◌, ◌≢◌, ℕ, ◌+◌, ◌≤◌, List, [], ◌++◌, Vec, Option, None, Some, length, map, slice_get, slice_index}
+use Rattle.std.specs.Prelude.{◌≡◌, ◌≢◌, ℕ, ◌+◌, ◌≤◌, List, [], ◌++◌, Vec, Option, None, Some, length, map, slice_get, slice_index, Bool, IsTrue}
 use Rattle.std.specs.declared.alloc.Global.{Global}
 use mathlib.Core.List.{IsPrefix}
 use Rattle.om_interval.specs.Vectors.{IsBelow}
@@ -76,3 +76,7 @@ HaveTold Tells old before new after = (start : _) (told : List Told) → Tells s
 -- of each lane as much is copied as before
 abbrev pub KeepsCopied : List FollowedOutputs → List FollowedOutputs → Type 0
 KeepsCopied old new = map (λ lane. lane.copied) new ≡ map (λ lane. lane.copied) old
+
+-- so it was, where nothing stopped it
+abbrev pub HaveToldIf : {F : Type 0} → (F → F → List Told → Type 0) → Bool → List FollowedOutputs → F → List FollowedOutputs → F → Type 0
+HaveToldIf Tells result old before new after = IsTrue result → HaveTold Tells old before new after

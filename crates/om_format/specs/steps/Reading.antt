@@ -1,5 +1,5 @@
 -- Reading a receipt from left to right.
-use Rattle.std.specs.Prelude.{ℕ, ◌+◌, ◌*◌, ◌==◌, List, [], ◌∷◌, length, take, drop, Bool, true, false, Result, Ok, Err, nat_lt, nat_le, if◌then◌else◌}
+use Rattle.std.specs.Prelude.{ℕ, ◌+◌, ◌*◌, ◌==◌, List, [], ◌∷◌, length, take, drop, Bool, true, false, Result, Ok, Err, nat_lt, nat_le, if◌then◌else◌, ◌≡◌}
 use Rattle.std.specs.Int.{from_le_bytes}
 use Rattle.om_interval.specs.declared.pid.TheConstants.{MAX_PROCESSES}
 use Rattle.om_format.specs.declared.error.DecodeError.{DecodeError}
@@ -122,3 +122,7 @@ receipt_at bytes = do
   fields ← receipt_fields_at bytes
   ended ← end_at fields.1
   Ok fields.0
+
+-- what is behind an offset is behind where the reading stopped
+abbrev pub LeavesBehind : ℕ → List ℕ → ℕ → List ℕ → Type 0
+LeavesBehind offset bytes stop rest = stop + length rest ≡ offset + length bytes

@@ -1,5 +1,5 @@
 -- Parts of what public clauses say, as the proofs take them one by one.
-use Rattle.std.specs.Prelude.{ℕ, List, [], ◌∷◌, ◌++◌, map, replicate, Option}
+use Rattle.std.specs.Prelude.{ℕ, List, [], ◌∷◌, ◌++◌, map, replicate, Option, ◌≡◌}
 use Rattle.std.specs.List.{AllZip}
 use Rattle.std.specs.Option.{option_map}
 use Rattle.om_machine.specs.State.{State}
@@ -13,7 +13,7 @@ use Rattle.om_process.specs.Process.{Process, Received, empty_queue}
 use Rattle.om_process.specs.Turns.{Leads, Turns}
 use Rattle.om_process.specs.Parts.{IsTrimmedQueue}
 use Rattle.om_process.specs.Replays.{received_of}
-use Rattle.om_process.specs.Core.{CoreState, LoggedRecord}
+use Rattle.om_process.specs.Core.{CoreState, LoggedRecord, cluster_size, with_now}
 use Rattle.om_process.specs.Frames.{message_of}
 use Rattle.om_process.specs.Stores.{IsOf}
 
@@ -62,3 +62,11 @@ IsSpelledNow c bytes = (r : CheckpointRecord) × IsOf c.own c.now r × SpellsChe
 -- an entry, if there is one, as a message on its way
 abbrev pub frame_of : CoreState → ℕ → ℕ → Option QueueEntry → Option Message
 frame_of c to ssn e = option_map (message_of c to ssn) e
+
+-- nothing but the process changed
+abbrev pub ChangesProcessAlone : CoreState → CoreState → Type 0
+ChangesProcessAlone old new = new ≡ with_now old new.now
+
+-- the process is still one of as many
+abbrev pub KeepsClusterSize : CoreState → CoreState → Type 0
+KeepsClusterSize old new = cluster_size new.now ≡ cluster_size old.now

@@ -1,7 +1,7 @@
 -- What the trees of an index hold, and what they say of its rows.
 use Rattle.std.specs.Prelude.{◌≡◌, ℕ, ◌<◌, ◌≤◌, ◌+◌, ◌^◌, Some, map}
 use Rattle.std.specs.FinSet as set
-use Rattle.om_recover.specs.Rows.{Rows, HasRow, Has, HaveSameVectors}
+use Rattle.om_recover.specs.Rows.{Rows, HasRow, Has, HaveSameVectors, IsLawful}
 use Rattle.om_recover.specs.Recoverable.{IsStable}
 use Rattle.om_recover.specs.steps.Nearest.{at}
 use Rattle.om_recover.specs.steps.Bases.{AreBases, base_entries}
@@ -93,3 +93,7 @@ pub record HasDifferent (rows : Rows) (row : Row) : Type 0 where
 abbrev pub AgreesOfKind : Rows → RowKind → Row → Type 0
 AgreesOfKind rows kind row =
     (other : Row) → HasRow rows other → other.kind ≡ kind → other.pid ≡ row.pid → other.interval ≡ row.interval → HaveSameVectors other row
+
+-- the rows that the trees hold are those of a cluster of some size
+abbrev pub AreLawful : Trees → Type 0
+AreLawful trees = (n : ℕ) × IsLawful n (held trees)

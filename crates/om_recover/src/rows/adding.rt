@@ -3,7 +3,7 @@
 ghost use Rattle.std.specs.Prelude.{◌≡◌, ℕ, ◌<◌, ◌≤◌, ◌+◌, ◌^◌, OnOk, OnErr, Some, IsTrue, ◌↔◌, IsSome, MatchOption};
 ghost use Rattle.std.specs.FinSet as set;
 ghost use Rattle.om_recover.specs.Rows.{Has, IsLawful};
-ghost use Rattle.om_recover.specs.steps.Held.{AreIndexed, AreTrees, Hold, IsFree, IsRun, IsNextOfRun, EndsRun, Reaches, held};
+ghost use Rattle.om_recover.specs.steps.Held.{AreIndexed, AreTrees, Hold, IsFree, IsRun, IsNextOfRun, EndsRun, Reaches, held, AreLawful};
 ghost use Rattle.om_recover.specs.steps.Nearest.{at};
 ghost use Rattle.om_recover.specs.steps.Bases.{AreBases, base_entries};
 ghost use Rattle.om_recover.specs.steps.Logs.{log_entries};
@@ -22,7 +22,7 @@ use std::alloc::AllocError;
 /// Adds a row of which there is no record of its kind: or none, where memory is refused.
 pub fn add(trees: &mut Trees, row: &Row) -> Result<(), AllocError>
     requires indexed { AreIndexed trees.old }
-    requires lawful { (n : ℕ) × IsLawful n (held trees.old) }
+    requires lawful { AreLawful trees.old }
     requires free { IsFree (held trees.old) row.now }
     ensures ok { OnOk result (Hold trees.new (set.insert (held trees.old) row.now)) }
     ensures err { OnErr result (Hold trees.new (held trees.old)) }
@@ -35,7 +35,7 @@ pub fn add(trees: &mut Trees, row: &Row) -> Result<(), AllocError>
 
 fn add_checkpoint(trees: &mut Trees, row: &Row) -> Result<(), AllocError>
     requires indexed { AreIndexed trees.old }
-    requires lawful { (n : ℕ) × IsLawful n (held trees.old) }
+    requires lawful { AreLawful trees.old }
     requires free { IsFree (held trees.old) row.now }
     requires kind { row.now.kind ≡ Checkpoint }
     ensures ok { OnOk result (Hold trees.new (set.insert (held trees.old) row.now)) }
@@ -53,7 +53,7 @@ fn add_checkpoint(trees: &mut Trees, row: &Row) -> Result<(), AllocError>
 
 fn add_log(trees: &mut Trees, row: &Row) -> Result<(), AllocError>
     requires indexed { AreIndexed trees.old }
-    requires lawful { (n : ℕ) × IsLawful n (held trees.old) }
+    requires lawful { AreLawful trees.old }
     requires free { IsFree (held trees.old) row.now }
     requires kind { row.now.kind ≡ Log }
     ensures ok { OnOk result (Hold trees.new (set.insert (held trees.old) row.now)) }

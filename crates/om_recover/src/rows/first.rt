@@ -7,7 +7,7 @@ ghost use Rattle.om_recover.specs.Records.{first_row};
 ghost use Rattle.om_recover.specs.steps.Bases.{HasNoNewest, HaveNoBases};
 ghost use Rattle.om_recover.specs.steps.Logs.{AreEmpty, HaveNone};
 ghost use Rattle.om_recover.specs.Rows.{Has, IsLawful};
-ghost use Rattle.om_recover.specs.steps.Held.{AreIndexed, Hold, IsFree, held};
+ghost use Rattle.om_recover.specs.steps.Held.{AreIndexed, Hold, IsFree, held, AreLawful};
 
 use crate::row::{Row, RowKind};
 use crate::rows::adding::add;
@@ -74,7 +74,7 @@ pub fn add_first(trees: &mut Trees, pid: Pid, n: usize) -> Result<(), AllocError
     requires some { 1 ≤ n }
     requires within { n ≤ MAX_PROCESSES }
     requires indexed { AreIndexed trees.old }
-    requires lawful { (n : ℕ) × IsLawful n (held trees.old) }
+    requires lawful { AreLawful trees.old }
     requires free { IsFree (held trees.old) (first_row n pid) }
     ensures { OnOk result (Hold trees.new (set.insert (held trees.old) (first_row n pid))) }
 {

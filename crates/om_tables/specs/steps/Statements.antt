@@ -1,5 +1,5 @@
 -- What the code's own steps do to the tables. No public clause cites this.
-use Rattle.std.specs.Prelude.{◌≡◌, ◌⊎◌, ◌+◌, ◌≤◌, ℕ, IsTrue, List, [], ◌∷◌, Option, Some, None, IsSome, Result, OnOk, OnErr}
+use Rattle.std.specs.Prelude.{◌≡◌, ◌⊎◌, ◌+◌, ◌≤◌, ℕ, IsTrue, List, [], ◌∷◌, Option, Some, None, IsSome, Result, OnOk, OnErr, false, length}
 use Rattle.std.specs.FinMap as finite
 use Rattle.om_tables.specs.declared.refusal.Refusal.{Refusal}
 use Rattle.sqlite.specs.Effect.{Database}
@@ -12,6 +12,8 @@ use Rattle.om_stable.specs.Content.{Records, Content, IsFree, IsEffective}
 use Rattle.om_tables.specs.Tables.{no_schema, stored_row}
 use Rattle.om_tables.specs.steps.Halfway.{half_schema, shown}
 use Rattle.om_tables.specs.Store.{Holds, IsFormed, content_in, is_sure, number_in, bytes_in}
+use Rattle.om_stable.specs.declared.batch.WriteBatch.{WriteBatch}
+use Rattle.om_stable.specs.declared.stable.TheConstants.{INTERVALS}
 
 -- the row as it is stored, by its two parts
 abbrev pub stored : ℕ → List ℕ → Row
@@ -111,3 +113,15 @@ CountsFault error old new = error ≡ Some Fault → Rose old new
 -- a connection that is sure was sure before
 abbrev pub StaysSure : State → State → Type 0
 StaysSure old new = IsTrue (is_sure new) → IsTrue (is_sure old)
+
+-- no transaction is under way
+abbrev pub IsIdle : State → Type 0
+IsIdle s = s.in_transaction ≡ false
+
+-- a reference is the one from before
+abbrev pub IsSameReference : {Name : Type 0} → Name → Name → Type 0
+IsSameReference before after = after ≡ before
+
+-- the intervals of a batch are ones that there can be
+abbrev pub IsWithinIntervals : WriteBatch → Type 0
+IsWithinIntervals batch = batch.first + length batch.receipts.now ≤ INTERVALS

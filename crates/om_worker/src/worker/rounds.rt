@@ -7,6 +7,7 @@ ghost use Rattle.om_worker_parts.specs.Acts.{HasJoined};
 ghost use Rattle.om_report.specs.Locks.{UnderLock};
 ghost use Rattle.om_worker_parts.specs.Places.{IsProcessOf, IsLanded, member_of};
 ghost use Rattle.om_links.specs.Links.{KeepsEnds};
+ghost use Rattle.om_node.specs.Nodes.{KeepsMember};
 
 use super::Worker;
 use om_board::{Naming, Pass};
@@ -86,7 +87,7 @@ impl<'a, K: Naming> Worker<'a, K> {
         requires process { IsProcessOf S.is_clean K.OverClean K.programs K.cell.n self.old.links.ends.own node.old.member }
         requires landed { node.old.away ≡ false }
         ensures same { KeepsEnds self.old.links self.new.links }
-        ensures member { node.new.member ≡ node.old.member }
+        ensures member { KeepsMember node.old node.new }
         ensures landed { node.new.away ≡ false }
         ensures joined { OnOk result (UnderLock K.cell.n (λ before after.
             HasJoined before.manager node.old.member.own (flushed node.old.core) after.manager node.new.core)) }

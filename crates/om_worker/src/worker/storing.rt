@@ -4,6 +4,7 @@ ghost use Rattle.std.specs.Prelude.{◌≡◌, ◌↔◌, Contains, IfOk, IsTrue
 ghost use Rattle.om_storing.specs.Receipts.{HasStoredBy};
 ghost use Rattle.om_worker.specs.steps.Dropping.{HasDropped};
 ghost use Rattle.om_links.specs.Links.{KeepsEnds};
+ghost use Rattle.om_node.specs.Nodes.{KeepsMember};
 
 use super::Worker;
 use om_board::Naming;
@@ -25,7 +26,7 @@ impl<'a, K: Naming> Worker<'a, K> {
         x: u32,
     ) -> Result<TurnOutcome, WorkerFault>
         ensures same { KeepsEnds self.old.links self.new.links }
-        ensures member { node.new.member ≡ node.old.member }
+        ensures member { KeepsMember node.old node.new }
         ensures now { node.new.core.now ≡ node.old.core.now }
         ensures killed { Contains self.old.kills.items x → result ≡ Ok TurnOutcome.Failed }
         ensures spared { (Contains self.old.kills.items x → ⊥) → IfOk result (λ turn_outcome. turn_outcome ≡ TurnOutcome.Up) }
@@ -69,7 +70,7 @@ impl<'a, K: Naming> Worker<'a, K> {
         is_trimmed: bool,
     )
         requires { node.old.member.n ≡ K.cell.n }
-        ensures member { node.new.member ≡ node.old.member }
+        ensures member { KeepsMember node.old node.new }
         ensures dropped { HasDropped node.old.core node.new.core }
     {
         if !is_trimmed || self.diary.is_kept() {
@@ -88,7 +89,7 @@ impl<'a, K: Naming> Worker<'a, K> {
         node: &mut Node<'a, J, S>,
     )
         requires { node.old.member.n ≡ K.cell.n }
-        ensures member { node.new.member ≡ node.old.member }
+        ensures member { KeepsMember node.old node.new }
         ensures away { node.new.away ≡ node.old.away }
     {
         if self.diary.is_kept() {
