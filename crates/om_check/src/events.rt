@@ -1,6 +1,6 @@
 //! The events of a run without failures, each by itself.
 
-ghost use Rattle.std.specs.Prelude.{◌≡◌, OnOk};
+ghost use Rattle.std.specs.Prelude.{OnOk};
 ghost use Rattle.om_world.specs.declared.event.Event.{Event};
 ghost use Rattle.om_world.specs.World.{IsKnown};
 ghost use Rattle.om_check.specs.steps.Playing.{IsTaken, KeepsKnownLive, StaysUnderWay, WasPlayed};

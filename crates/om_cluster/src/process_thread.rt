@@ -1,8 +1,8 @@
 //! What the thread of a process is to do.
 
-ghost use Rattle.std.specs.Prelude.{◌≡◌, IfOk, Some, slice_get};
+ghost use Rattle.std.specs.Prelude.{◌≡◌, IfOk};
 ghost use Rattle.om_process.specs.Images.{program_of};
-ghost use Rattle.om_node.specs.Nodes.{AreAlwaysClean, HasCleanStores};
+ghost use Rattle.om_node.specs.Nodes.{HasCleanStores};
 ghost use Rattle.om_cluster.specs.Ends.{IsEndOf, IsOwnEnd, IsProgramOf};
 
 use crate::finished::Finished;

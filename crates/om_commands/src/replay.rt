@@ -1,11 +1,10 @@
 //! The command `replay`: the state of a process in an interval, from what its store holds.
 
-ghost use Rattle.std.specs.Prelude.{◌≡◌, ℕ, List, IfOk, IfErr, OnOk, IsErrOf, Err, ◌≢◌, string_bytes};
+ghost use Rattle.std.specs.Prelude.{ℕ, List, IfOk, IfErr, OnOk, IsErrOf, Err, ◌≢◌, string_bytes};
 ghost use Rattle.std.specs.Io.KnownBytes.{Appends, Keeps};
 ghost use Rattle.om_stable.specs.Calls.{IsCleanCall, UsesStore, LeavesContent};
-ghost use Rattle.om_process.specs.Stored.{anyone, CanReplay};
 ghost use Rattle.om_commands.specs.Command.{IsSilent};
-ghost use Rattle.om_commands.specs.Replay.{IsNoMatterOfContent, IsReplayError, IsReplayText, TellsReplayError, RefusesForNoContent};
+ghost use Rattle.om_commands.specs.Replay.{IsReplayText, TellsReplayError, RefusesForNoContent};
 
 use crate::command::write_answer;
 use crate::error::CommandError;

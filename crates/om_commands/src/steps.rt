@@ -3,9 +3,8 @@
 ghost use Rattle.std.specs.Prelude.{◌≡◌, ◌≢◌, ◌++◌, ℕ, List, IfOk, IfErr, OnOk, IsErrOf, Err};
 ghost use Rattle.std.specs.Io.KnownBytes.{Appends, Keeps};
 ghost use Rattle.om_stable.specs.Calls.{IsCleanCall, UsesStore, LeavesContent};
-ghost use Rattle.om_process.specs.Stored.{anyone, CanReplay};
 ghost use Rattle.om_commands.specs.Command.{IsSilent};
-ghost use Rattle.om_commands.specs.Replay.{IsNoMatterOfContent, IsReplayError, TellsReplayError, RefusesForNoContent};
+ghost use Rattle.om_commands.specs.Replay.{TellsReplayError, RefusesForNoContent};
 ghost use Rattle.om_commands.specs.ReplaySteps.{IsStepsText, TakesSteps};
 ghost use Rattle.om_commands.specs.steps.Behind.{IsTextBehind};
 

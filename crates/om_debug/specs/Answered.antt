@@ -5,7 +5,7 @@ use Rattle.om_requests.specs.declared.request.Request.TheVariants as requests
 use Rattle.om_debug.specs.declared.debugger.Reply.{Reply}
 use Rattle.om_debug.specs.declared.stop.Stop.{Stop}
 use Rattle.om_debug.specs.Monitor.{IsCommanded}
-use Rattle.om_debug.specs.Stops.{DebugState, IsPassed, IsRunBack, IsStepBack, StandsFor, stop_text, with_timeline, ChangesTimelineAlone}
+use Rattle.om_debug.specs.Stops.{DebugState, IsPassed, IsRunBack, IsStepBack, StandsFor, stop_text, ChangesTimelineAlone}
 use Rattle.om_debug.specs.Told.{asked, clear_break, clear_watch, set_break, set_watch, text_of, with_breaks, with_watches}
 
 -- the process has gone on: nothing stops it at any position that it passed, and it stands where it does for this, which is told

@@ -10,7 +10,7 @@ use Rattle.om_timeline.specs.Timeline.{TimelineState, machine_here}
 use Rattle.om_debug.specs.declared.debugger.Reply.{Reply}
 use Rattle.om_debug.specs.declared.monitor.TheConstants.{EVENTS_BEFORE, EVENTS_FROM, HELP}
 use Rattle.om_debug.specs.Standing.{standing_text}
-use Rattle.om_debug.specs.Stops.{DebugState, with_timeline, ChangesTimelineAlone}
+use Rattle.om_debug.specs.Stops.{DebugState, ChangesTimelineAlone}
 use Rattle.om_debug.specs.Told.{text_of}
 
 -- ---- texts

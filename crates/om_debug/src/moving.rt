@@ -6,7 +6,7 @@ ghost use Rattle.om_debug.specs.Moments.{next_at};
 ghost use Rattle.om_debug.specs.Monitor.{IsAtEvent};
 ghost use Rattle.om_timeline.specs.declared.tape.Peek.{Peek};
 ghost use Rattle.om_timeline.specs.Deeds.{turns_at};
-ghost use Rattle.om_debug.specs.Stops.{IsBefore, IsBehind, IsFrom, IsLast, IsLookedBack, IsMoved, IsPartBack, IsPassed, IsQuiet, IsQuietRest, IsRunBack, IsStepBack, IsStillBefore, IsWithin, StandsFor, breaks_here, has_stops, standing, stop_here, watch_here, with_timeline, ChangesTimelineAlone, ChangesPositionAlone};
+ghost use Rattle.om_debug.specs.Stops.{IsBefore, IsBehind, IsFrom, IsLast, IsLookedBack, IsMoved, IsPartBack, IsPassed, IsQuiet, IsQuietRest, IsRunBack, IsStepBack, IsStillBefore, IsWithin, StandsFor, breaks_here, has_stops, standing, stop_here, watch_here, ChangesTimelineAlone, ChangesPositionAlone};
 ghost use Rattle.om_debug.specs.steps.Scanning.{IsOver, IsPart};
 ghost use Rattle.om_debug.specs.steps.Stepping.{before_last};
 ghost use Rattle.om_debug.specs.Told.{ReadsNothing};

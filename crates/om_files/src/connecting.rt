@@ -1,6 +1,6 @@
 //! Stores in the tables of databases.
 
-ghost use Rattle.std.specs.Prelude.{◌≡◌, ◌↔◌, false, IfOk, IsTrue};
+ghost use Rattle.std.specs.Prelude.{◌≡◌, ◌↔◌, IfOk, IsTrue};
 ghost use Rattle.om_runner.specs.Reports.{nothing};
 ghost use Rattle.om_tables.specs.Refusals.{out_of_memory};
 ghost use Rattle.om_files.specs.Quiet.{IsIdle};

@@ -1,6 +1,6 @@
 //! A database of a file that is only read: what the file and its log hold is read whole, and opened from there.
 
-ghost use Rattle.std.specs.Prelude.{◌≡◌, false, IfErr, IfOk};
+ghost use Rattle.std.specs.Prelude.{IfErr, IfOk};
 ghost use Rattle.om_files.specs.Quiet.{IsQuiet, IsIdle};
 
 use om_commands::CommandError;

@@ -1,6 +1,6 @@
 //! How the database of a store is opened, and made where there is none.
 
-ghost use Rattle.std.specs.Prelude.{◌≡◌, false, IfOk, OnOk, IsTrue};
+ghost use Rattle.std.specs.Prelude.{false, IfOk, OnOk, IsTrue};
 ghost use Rattle.sqlite_store.specs.Unopened.{AreUsable};
 ghost use Rattle.om_files.specs.Quiet.{IsIdle};
 

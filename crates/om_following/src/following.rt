@@ -10,7 +10,7 @@ ghost use Rattle.om_report.specs.Released.{AreAllMade, AreAllReleased};
 ghost use Rattle.om_report.specs.Telling.{AreInOrder, AreToldMade, Told};
 ghost use Rattle.om_following.specs.declared.follower.FollowFault.TheVariants.{Unwanted};
 ghost use Rattle.om_following.specs.Following.{AreAllCopied, AreEmpty, AreTold, IsEmpty, IsFollowed, StaysFollowed};
-ghost use Rattle.om_following.specs.steps.Lanes.{AreMore, HasTold, HaveMore, HaveTold, IsBehind, IsMore, held_in, KeepsCopied, HaveToldIf};
+ghost use Rattle.om_following.specs.steps.Lanes.{AreMore, HasTold, HaveMore, IsBehind, IsMore, held_in, KeepsCopied, HaveToldIf};
 ghost use Rattle.om_report.specs.Harvests.{AreOwn, harvested};
 
 use crate::followed_outputs::FollowedOutputs;

@@ -1,6 +1,6 @@
 //! The queues of a checkpoint.
 
-ghost use Rattle.std.specs.Prelude.{◌≡◌, ◌+◌, ◌<◌, ◌^◌, IfOk, length, map};
+ghost use Rattle.std.specs.Prelude.{◌+◌, ◌<◌, ◌^◌, IfOk, length, map};
 ghost use Rattle.om_format.specs.Formats.{four, eight};
 ghost use Rattle.om_format.specs.Outcomes.{Gives};
 ghost use Rattle.om_format.specs.steps.CheckpointReading.{entry_at, entries_at, queue_at, queues_at};

@@ -1,9 +1,9 @@
 //! Commands of the user, which only tell or go to an event.
 
-ghost use Rattle.std.specs.Prelude.{◌≡◌, ◌++◌, ◌<◌, IfOk, OnOk, false, length, position, slice_get, string_bytes};
+ghost use Rattle.std.specs.Prelude.{◌≡◌, ◌++◌, ◌<◌, IfOk, OnOk, length, position, slice_get, string_bytes};
 ghost use Rattle.std.specs.List.{flat_map};
 ghost use Rattle.om_debug.specs.Monitor.{IsAtEvent, IsSaid, time_line};
-ghost use Rattle.om_debug.specs.Told.{is_last, IsNotLast};
+ghost use Rattle.om_debug.specs.Told.{IsNotLast};
 ghost use Rattle.om_inferiors.specs.Monitor.{AreSentTo, IsGroupCommanded, IsGroupSentTo, group_events_text, group_where_text, is_under_way, lead_place, member_line, number_text, time_of};
 ghost use Rattle.om_inferiors.specs.steps.Sending.{IsSentAt};
 

@@ -1,6 +1,6 @@
 //! All processes forward to a stop, and back to one.
 
-ghost use Rattle.std.specs.Prelude.{◌≡◌, ◌≢◌, ◌⊎◌, ℕ, ◌<◌, List, IfOk, IfSome, OnOk, false, length, slice_get, true};
+ghost use Rattle.std.specs.Prelude.{◌≡◌, ◌≢◌, ◌⊎◌, ◌<◌, List, IfOk, IfSome, OnOk, false, length, slice_get, true};
 ghost use Rattle.om_timeline.specs.Timeline.{IsUpTo};
 ghost use Rattle.om_inferiors.specs.declared.inferior.Inferior.{Inferior};
 ghost use Rattle.om_inferiors.specs.Moving.{AreBack, AreOn, IsLastOf, IsNoStepBack, IsRunBackAt, IsStepBackAt, StandsAt};

@@ -1,7 +1,7 @@
 //! One process of a record, or all.
 
-ghost use Rattle.std.specs.Prelude.{◌≡◌, IfOk, false};
-ghost use Rattle.om_debug.specs.Told.{is_last, text_of, ReadsNothing, IsNotLast};
+ghost use Rattle.std.specs.Prelude.{◌≡◌, IfOk};
+ghost use Rattle.om_debug.specs.Told.{text_of, ReadsNothing, IsNotLast};
 ghost use Rattle.om_inferiors.specs.Serving.{IsShownOutcome, pause_text};
 
 use crate::inferiors::Inferiors;

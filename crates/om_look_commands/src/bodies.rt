@@ -5,7 +5,7 @@ ghost use Rattle.std.specs.Io.KnownBytes.{Appends, Keeps};
 ghost use Rattle.om_body_text.specs.Bodies.{AreBodies};
 ghost use Rattle.sqlite.specs.Files.{file_state};
 ghost use Rattle.sqlite.specs.Held.{state};
-ghost use Rattle.om_tables.specs.Store.{HasBothTables, IsFormed, content_in, is_sure};
+ghost use Rattle.om_tables.specs.Store.{IsFormed, content_in, is_sure};
 ghost use Rattle.om_commands.specs.Command.{IsSilent};
 ghost use Rattle.om_look_commands.specs.Looks.{IsShownWithBodies, IsSoIn, LeavesTables, RefusesWithoutTables};
 ghost use Rattle.om_commands.specs.Replay.{IsNoMatterOfContent};

@@ -4,7 +4,7 @@ ghost use Rattle.std.specs.Prelude.{◌≡◌, ◌≢◌, ◌⊎◌, ℕ, List, 
 ghost use Rattle.std.specs.Io.KnownBytes.{Appends, Keeps};
 ghost use Rattle.sqlite.specs.Files.{file_state};
 ghost use Rattle.sqlite.specs.Held.{state};
-ghost use Rattle.om_tables.specs.Store.{HasBothTables, IsFormed, content_in, is_sure};
+ghost use Rattle.om_tables.specs.Store.{IsFormed, content_in, is_sure};
 ghost use Rattle.om_commands.specs.Command.{IsSilent};
 ghost use Rattle.om_commands.specs.Replay.{IsNoMatterOfContent, IsReplayError};
 ghost use Rattle.om_commands.specs.ReplaySteps.{IsStepsText};

@@ -1,5 +1,5 @@
 -- A process as its callers see it, and what one move makes of it.
-use Rattle.std.specs.Prelude.{◌≡◌, ℕ, zero, suc, ◌+◌, List, [], ◌∷◌, ◌++◌, map, replicate, max, slice_index, slice_set, Option, Some, None}
+use Rattle.std.specs.Prelude.{ℕ, zero, suc, ◌+◌, List, [], ◌∷◌, ◌++◌, map, replicate, max, slice_index, slice_set, Option, Some, None}
 use Rattle.om_isa.specs.declared.ext.Ext.{Ext}
 use Rattle.om_machine.specs.State.{State, loaded}
 use Rattle.om_machine.specs.Finishing.{finished_receive}

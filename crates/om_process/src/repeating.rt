@@ -3,7 +3,7 @@
 ghost use Rattle.std.specs.Prelude.{◌≡◌, ◌+◌, ◌<◌, ◌∷◌, [], List, IfErr, IfNone, IfOk, IfSome, OnOk, false, true, vec_len};
 ghost use Rattle.om_format.specs.Receipts.{ReceiptRecord, SpellsReceipt, receipt_record};
 ghost use Rattle.om_stable.specs.Content.{rows_of};
-ghost use Rattle.om_process.specs.Core.{cluster_size, with_now};
+ghost use Rattle.om_process.specs.Core.{cluster_size};
 ghost use Rattle.om_process.specs.Replays.{Replayed};
 ghost use Rattle.om_process.specs.declared.limits.TheConstants.{LAST_INTERVAL};
 ghost use Rattle.om_process.specs.steps.Fitting.{MayTake, DoesNotFit};

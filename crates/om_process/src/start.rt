@@ -1,6 +1,6 @@
 //! Processes at their start.
 
-ghost use Rattle.std.specs.Prelude.{◌≡◌, ◌≢◌, ◌<◌, ◌≤◌, ◌↔◌, ◌++◌, ◌∷◌, [], IfOk, IsErrOf, IsSome, None, OnErr, OnOk, length, map, replicate};
+ghost use Rattle.std.specs.Prelude.{◌≡◌, ◌≢◌, ◌<◌, ◌≤◌, ◌↔◌, ◌++◌, ◌∷◌, [], IfOk, IsErrOf, IsSome, None, OnOk, length, map, replicate};
 ghost use Rattle.std.specs.FinMap.{get};
 ghost use Rattle.om_isa.specs.Memory.{IsMemorySize};
 ghost use Rattle.om_stable.specs.Calls.{IsCleanCall, UsesStore, LeavesRefused};

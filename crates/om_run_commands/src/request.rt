@@ -2,7 +2,6 @@
 
 ghost use Rattle.std.specs.Prelude.{◌≡◌, ◌≤◌, ℕ, List, IsTrue, length, IfSome, IfErr, IfOk};
 ghost use Rattle.std.specs.Io.KnownBytes.{Appends, Keeps};
-ghost use Rattle.om_commands.specs.Command.{IsSilent};
 ghost use Rattle.om_run_commands.specs.Modes.{IsAnswerIn, IsErrorIn, IsFollowing, IsPartIn, IsPartOfScriptIn, IsRunIn, IsSilentIn};
 ghost use Rattle.om_run_commands.specs.Run.{IsByKind};
 ghost use Rattle.om_run_commands.specs.steps.Modes.{IsErrorOfScriptIn};

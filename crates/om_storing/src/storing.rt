@@ -1,6 +1,6 @@
 //! What the store of a process is given, and when.
 
-ghost use Rattle.std.specs.Prelude.{◌≡◌, ◌&&◌, ◌||◌, ◌++◌, ◌∷◌, [], IfNone, IfSome, IsSome, None, OnErr, OnOk, Some, false, is_some, length};
+ghost use Rattle.std.specs.Prelude.{◌≡◌, ◌&&◌, ◌||◌, ◌++◌, ◌∷◌, [], IfNone, IfSome, IsSome, None, OnOk, Some, false, is_some, length};
 ghost use Rattle.om_process.specs.Flights.{landed};
 ghost use Rattle.om_process.specs.Stores.{flushed};
 ghost use Rattle.om_process.specs.Trims.{trimmed};

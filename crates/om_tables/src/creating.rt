@@ -1,5 +1,5 @@
 //! The two tables are made.
-ghost use Rattle.std.specs.Prelude.{◌≡◌, false, IsTrue, OnOk, OnErr};
+ghost use Rattle.std.specs.Prelude.{◌≡◌, IsTrue, OnOk, OnErr};
 ghost use Rattle.om_tables.specs.Store.{LeavesCommitted};
 ghost use Rattle.om_tables.specs.steps.Statements.{Follows, Makes, HasNoTables, HasReceipts, HoldsNothing, IsIdle, IsSameReference};
 ghost use Rattle.sqlite.specs.Held.{state};

@@ -1,5 +1,5 @@
 //! Records are removed.
-ghost use Rattle.std.specs.Prelude.{◌≡◌, nat_le, nat_lt, false};
+ghost use Rattle.std.specs.Prelude.{nat_le, nat_lt};
 ghost use Rattle.std.specs.FinMap as finite;
 ghost use Rattle.om_tables.specs.steps.Statements.{Performs, Transacts, IsIdle, IsSameReference};
 ghost use Rattle.om_stable.specs.Content.{kept_by_cut, kept_by_prune};

@@ -1,7 +1,6 @@
 //! The further tables of a ledger are made, filled and read. No clause says what they hold.
-ghost use Rattle.std.specs.Prelude.{◌≡◌, ◌+◌, ◌≤◌, pos, length, false};
+ghost use Rattle.std.specs.Prelude.{◌≡◌, ◌+◌, ◌≤◌, pos, length};
 ghost use Rattle.om_stable.specs.declared.ledger.TheConstants.{LEDGER_NUMBERS};
-ghost use Rattle.om_stable.specs.declared.stable.TheConstants.{INTERVALS};
 ghost use Rattle.sqlite.specs.Held.{state};
 ghost use Rattle.om_tables.specs.steps.Statements.{IsIdle, IsSameReference, IsWithinIntervals};
 

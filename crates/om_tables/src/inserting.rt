@@ -1,5 +1,5 @@
 //! Records are put.
-ghost use Rattle.std.specs.Prelude.{◌≡◌, ◌+◌, ◌≤◌, [], ◌∷◌, length, false};
+ghost use Rattle.std.specs.Prelude.{◌+◌, ◌≤◌, [], ◌∷◌, length};
 ghost use Rattle.om_tables.specs.steps.Statements.{Performs, Transacts, IsIdle, IsSameReference};
 ghost use Rattle.om_stable.specs.Content.{with_receipts, with_checkpoint, bytes_of};
 ghost use Rattle.om_stable.specs.declared.stable.TheConstants.{INTERVALS};

@@ -2,7 +2,6 @@
 ghost use Rattle.std.specs.Prelude.{◌≡◌, ◌≢◌, ◌≤◌, ◌+◌, length, ℕ, [], ◌∷◌, map, codes, false, IsTrue, Some, None, ◌↔◌, is_ok, IsSome, IfOk, IfErr, IfSome, IsErrOf, OnOk, OnErr};
 ghost use Rattle.std.specs.Result.{result_err};
 ghost use Rattle.std.specs.FinMap as map;
-ghost use Rattle.om_stable.specs.Count.{Rose};
 ghost use Rattle.om_stable.specs.declared.error.StoreError.TheVariants.{Fault};
 ghost use Rattle.om_stable.specs.Batches.{IsHeld, written};
 ghost use Rattle.om_stable.specs.Content.{IsFree, IsTaken};

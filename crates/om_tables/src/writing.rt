@@ -1,9 +1,7 @@
 //! Batches of records are written.
-ghost use Rattle.std.specs.Prelude.{◌≡◌, ◌+◌, ◌≤◌, length, false};
 ghost use Rattle.om_tables.specs.steps.Statements.{Performs, Transacts, IsIdle, IsSameReference, IsWithinIntervals};
 ghost use Rattle.om_stable.specs.Batches.{pruned_to, with_new, written};
 ghost use Rattle.om_stable.specs.Content.{with_receipts, bytes_of};
-ghost use Rattle.om_stable.specs.declared.stable.TheConstants.{INTERVALS};
 ghost use Rattle.sqlite.specs.Held.{state};
 
 use crate::deleting::prune_both;

@@ -1,7 +1,6 @@
 //! A cluster, a thread for each process.
 
 ghost use Rattle.std.specs.Prelude.{◌≡◌, ◌≤◌, IfErr, IfOk, OnOk, length, map, vec_len};
-ghost use Rattle.om_interval.specs.declared.pid.TheConstants.{MAX_PROCESSES};
 ghost use Rattle.om_process.specs.Images.{program_of};
 ghost use Rattle.om_report.specs.Faults.{IsFaultOf};
 ghost use Rattle.om_report.specs.Harvests.{harvested};

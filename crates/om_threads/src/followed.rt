@@ -1,7 +1,6 @@
 //! A cluster whose outputs are told as they are released.
 
 ghost use Rattle.std.specs.Prelude.{◌≡◌, ◌≢◌, ◌≤◌, [], IfErr, IfOk, List, length, map};
-ghost use Rattle.om_interval.specs.declared.pid.TheConstants.{MAX_PROCESSES};
 ghost use Rattle.om_process.specs.Images.{program_of};
 ghost use Rattle.om_following.specs.Following.{IsFollowed};
 ghost use Rattle.om_report.specs.Telling.{AreInOrder, AreToldMade, Told};

@@ -1,7 +1,6 @@
 //! A cluster, while it is taken down what its threads do.
 
 ghost use Rattle.std.specs.Prelude.{◌≡◌, ◌≤◌, IfErr, IfOk, OnOk, length, map};
-ghost use Rattle.om_interval.specs.declared.pid.TheConstants.{MAX_PROCESSES};
 ghost use Rattle.om_process.specs.Images.{program_of};
 ghost use Rattle.om_report.specs.Faults.{IsFaultOf};
 ghost use Rattle.om_node.specs.Nodes.{AreAlwaysClean, HasCleanStores};

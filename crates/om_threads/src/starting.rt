@@ -8,7 +8,7 @@ ghost use Rattle.om_report.specs.Faults.{IsFaultOf};
 ghost use Rattle.om_report.specs.declared.fault.RunFault.TheVariants.{Memory};
 ghost use Rattle.om_threads.specs.steps.Ends.{AreEndsOf, AreOwnEnds, IsPromised};
 ghost use Rattle.om_cluster.specs.Ends.{IsEndOf, IsOwnEnd};
-ghost use Rattle.om_node.specs.Nodes.{AreAlwaysClean, HasCleanStores};
+ghost use Rattle.om_node.specs.Nodes.{HasCleanStores};
 ghost use Rattle.om_threads.specs.steps.Starting.{CanStart, IsNamedFor};
 ghost use Rattle.om_links.specs.Network.{IsNetwork};
 ghost use Rattle.om_links.specs.Wiring.{HasEnds};

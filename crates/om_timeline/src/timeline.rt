@@ -1,6 +1,6 @@
 //! A position on the tape, with the machine there.
 
-ghost use Rattle.std.specs.Prelude.{◌≡◌, ◌↔◌, ◌++◌, ◌+◌, ◌<◌, ◌≤◌, ℕ, List, IfOk, IfSome, MatchOption, OnErr, OnOk, false, length, true};
+ghost use Rattle.std.specs.Prelude.{◌≡◌, ◌↔◌, ◌++◌, ◌+◌, ◌<◌, ◌≤◌, List, IfOk, IfSome, MatchOption, OnErr, OnOk, false, length, true};
 ghost use Rattle.om_world.specs.Holds.{Holds};
 ghost use Rattle.om_world.specs.World.{IsKnown};
 ghost use Rattle.om_process.specs.Core.{status_of};

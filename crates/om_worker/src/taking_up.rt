@@ -8,7 +8,7 @@ ghost use Rattle.om_interval.specs.declared.pid.TheConstants.{MAX_PROCESSES};
 ghost use Rattle.om_process.specs.Images.{program_of};
 ghost use Rattle.om_node.specs.Stores.{AreNeverClean};
 ghost use Rattle.om_report.specs.Faults.{IsFaultBy};
-ghost use Rattle.om_node.specs.Nodes.{AreAlwaysClean, HasCleanStores};
+ghost use Rattle.om_node.specs.Nodes.{HasCleanStores};
 ghost use Rattle.om_worker.specs.steps.Refusals.{refusal_of_found};
 ghost use Rattle.om_links.specs.Links.{KeepsEnds};
 

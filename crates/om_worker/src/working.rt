@@ -1,12 +1,12 @@
 //! What the thread of a process does, from the gate to the end.
 
-ghost use Rattle.std.specs.Prelude.{◌≡◌, ◌<◌, ◌≤◌, IfErr, IfOk, OnOk, Some, slice_get};
+ghost use Rattle.std.specs.Prelude.{◌<◌, ◌≤◌, IfErr, OnOk};
 ghost use Rattle.om_process.specs.Images.{program_of};
 ghost use Rattle.om_process.specs.declared.image.Image.{Image};
 ghost use Rattle.om_node.specs.Stores.{AreNeverClean};
-ghost use Rattle.om_cluster.specs.Ends.{IsEndOf, IsOwnEnd, IsProgramOf};
+ghost use Rattle.om_cluster.specs.Ends.{IsOwnEnd, IsProgramOf};
 ghost use Rattle.om_report.specs.Faults.{IsFaultBy};
-ghost use Rattle.om_node.specs.Nodes.{AreAlwaysClean, HasCleanStores};
+ghost use Rattle.om_node.specs.Nodes.{HasCleanStores};
 ghost use Rattle.om_worker.specs.steps.Turning.{EndsOf};
 
 use crate::taking_up::take_up;

@@ -5,7 +5,7 @@ ghost use Rattle.om_manager.specs.declared.answers.Gathered.{Gathered};
 ghost use Rattle.om_manager.specs.declared.answers.JoinError.{JoinError};
 ghost use Rattle.om_world.specs.Changes.{IsUp};
 ghost use Rattle.om_world.specs.Happened.{Happened};
-ghost use Rattle.om_world.specs.Played.{IsCounted, IsFaultless};
+ghost use Rattle.om_world.specs.Played.{IsCounted};
 ghost use Rattle.om_world.specs.World.{IsKnown};
 ghost use Rattle.om_world.specs.declared.event.Event.{Event};
 ghost use Rattle.om_world.specs.declared.event.Refusal.{Refusal};

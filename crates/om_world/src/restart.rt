@@ -9,7 +9,7 @@ ghost use Rattle.om_world.specs.Disk.{AreTrue, held_in};
 ghost use Rattle.om_world.specs.Failures.{HasNews};
 ghost use Rattle.om_world.specs.Happened.{Happened};
 ghost use Rattle.om_world.specs.Live.{cut_list};
-ghost use Rattle.om_world.specs.Played.{IsCounted, IsFaultless};
+ghost use Rattle.om_world.specs.Played.{IsCounted};
 ghost use Rattle.om_world.specs.Restarted.{anew};
 ghost use Rattle.om_world.specs.Started.{IsNew};
 ghost use Rattle.om_world.specs.Stopped.{AreCurrent, IsLeft, IsWhole, along};

@@ -4,7 +4,7 @@ ghost use Rattle.std.specs.Prelude.{◌≡◌, ◌≢◌, ◌<◌, ◌↔◌, le
 ghost use Rattle.om_process.specs.declared.replay.ReplayFault.{ReplayFault};
 ghost use Rattle.om_world.specs.Failures.{HasNews, IsToGoOn, taken_down};
 ghost use Rattle.om_world.specs.Happened.{Happened, Refused};
-ghost use Rattle.om_world.specs.Played.{IsCounted, IsFaultless};
+ghost use Rattle.om_world.specs.Played.{IsCounted};
 ghost use Rattle.om_world.specs.World.{IsKnown};
 ghost use Rattle.om_world.specs.declared.event.Event.{Event};
 ghost use Rattle.om_world.specs.declared.event.Refusal.{Refusal};

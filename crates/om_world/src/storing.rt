@@ -1,11 +1,11 @@
 //! Records that are stored, and rows that are noted.
 
-ghost use Rattle.std.specs.Prelude.{ℕ, ◌≡◌, ◌≢◌, IfOk, OnErr, OnOk, Result, Err, Ok};
+ghost use Rattle.std.specs.Prelude.{ℕ, ◌≡◌, IfOk, OnErr, OnOk, Result, Err, Ok};
 ghost use Rattle.om_world.specs.Changes.{IsUp};
 ghost use Rattle.om_member.specs.Members.{core_of};
 ghost use Rattle.om_stable.specs.declared.error.StoreError.{StoreError};
 ghost use Rattle.om_world.specs.Happened.{Happened};
-ghost use Rattle.om_world.specs.Played.{IsCounted, IsFaultless};
+ghost use Rattle.om_world.specs.Played.{IsCounted};
 ghost use Rattle.om_world.specs.World.{IsKnown};
 ghost use Rattle.om_manager.specs.declared.answers.RecordError.{RecordError};
 ghost use Rattle.om_world.specs.declared.event.Event.{Event};

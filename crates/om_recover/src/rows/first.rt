@@ -6,7 +6,7 @@ ghost use Rattle.om_interval.specs.declared.pid.TheConstants.{MAX_PROCESSES};
 ghost use Rattle.om_recover.specs.Records.{first_row};
 ghost use Rattle.om_recover.specs.steps.Bases.{HasNoNewest, HaveNoBases};
 ghost use Rattle.om_recover.specs.steps.Logs.{AreEmpty, HaveNone};
-ghost use Rattle.om_recover.specs.Rows.{Has, IsLawful};
+ghost use Rattle.om_recover.specs.Rows.{Has};
 ghost use Rattle.om_recover.specs.steps.Held.{AreIndexed, Hold, IsFree, held, AreLawful};
 
 use crate::row::{Row, RowKind};
