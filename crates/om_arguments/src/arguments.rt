@@ -15,14 +15,12 @@ use crate::mistake::{Mistake, long_number_for, needed, number_up_to};
 use clap::error::ErrorKind;
 use clap::{ArgMatches, Command, Error};
 use om_isa::Ext;
+use om_scripts::MAX_KILLS;
 use std::alloc::{AllocError, Global};
 use std::convert::AsStr;
 
 // The most turns of a worker, where nothing is said.
 const DEFAULT_TURNS: u64 = 50_000_000;
-
-// The most kills that are drawn: as many as a cluster file may have.
-const MAX_KILLS: u32 = 64;
 
 // The name that stands for standard input. As that of a file to be written it would stand for standard output.
 pub(crate) const STANDARD_STREAM: &str = "-";
@@ -334,7 +332,7 @@ fn kills_of<'a>(found: &ArgMatches<'a>) -> Result<Option<Kills>, Mistake<'a>> {
     let Some(count) = found.get_str(KILLS) else {
         return Ok(None);
     };
-    let count = number_up_to("--kills <N>", count, MAX_KILLS)?;
+    let count = number_up_to("--kills <N>", count, MAX_KILLS as u32)?;
     let seed = match found.get_str(SEED) {
         Some(seed) => long_number_for("--seed <S>", seed)?,
         None => 0,

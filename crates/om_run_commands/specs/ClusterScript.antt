@@ -8,7 +8,8 @@ use Rattle.om_text.specs.declared.error.LineError.{LineError}
 use Rattle.om_text.specs.declared.error.LineError.TheVariants.{UnknownLine, WrongCount, BadNumber, BadName, NoSuchName, TooMany}
 use Rattle.om_scripts.specs.Named.{is_name, place_of}
 use Rattle.om_scripts.specs.Programs.{Cluster, no_programs, script_line}
-use Rattle.om_run_commands.specs.declared.cluster_script.TheConstants.{DEFAULT_CHECKPOINT, DEFAULT_FLUSH, DEFAULT_FUEL, MAX_KILLS}
+use Rattle.om_scripts.specs.declared.programs.TheConstants.{MAX_KILLS}
+use Rattle.om_run_commands.specs.declared.cluster_script.TheConstants.{DEFAULT_CHECKPOINT, DEFAULT_FLUSH, DEFAULT_FUEL}
 
 -- what has been read: the programs and processes; which processes are to fail, each in which interval; after how many
 -- receipts a process stores its volatile log, and after how many a checkpoint; and how many instructions a turn has

@@ -8,13 +8,10 @@ ghost use Rattle.om_run_commands.specs.steps.Settings.{checkpoint_line, flush_li
 
 use om_interval::Pid;
 use om_isa::Ext;
-use om_scripts::{Programs, name_of};
+use om_scripts::{MAX_KILLS, Programs, name_of};
 use om_text::{BuildError, Builder, LineError, long_number_of, number_of};
 use std::alloc::{AllocError, Global};
 use std::marker::Model;
-
-/// The most lines `kill`.
-pub const MAX_KILLS: usize = 64;
 
 /// After so many receipts a process stores its volatile log, where no line `flush` says otherwise.
 pub const DEFAULT_FLUSH: u32 = 4;

@@ -5,7 +5,7 @@ ghost use Rattle.om_commands.specs.declared.bytes_text.BytesForm.{BytesForm};
 ghost use Rattle.om_scripts.specs.Programs.{Cluster};
 ghost use Rattle.om_world.specs.declared.entry.Entry.{Entry};
 ghost use Rattle.om_run_commands.specs.Check.{IsTextIn};
-ghost use Rattle.om_run_commands.specs.declared.cluster_script.TheConstants.{DEFAULT_CHECKPOINT, DEFAULT_FLUSH, DEFAULT_FUEL, MAX_KILLS};
+ghost use Rattle.om_run_commands.specs.declared.cluster_script.TheConstants.{DEFAULT_CHECKPOINT, DEFAULT_FLUSH, DEFAULT_FUEL};
 
 /// Proves that what is received in a run without failures determines its text.
 pub fn one_text()
@@ -13,9 +13,8 @@ pub fn one_text()
         → IsTextIn form cluster live other → text ≡ other }
 {}
 
-/// Proves that a cluster file has at most so many kills, and these numbers hold where it names none.
+/// Proves that these numbers hold where a cluster file names none.
 pub fn limits()
-    ensures kills { MAX_KILLS ≡ 64 }
     ensures flush { DEFAULT_FLUSH ≡ 4 }
     ensures checkpoint { DEFAULT_CHECKPOINT ≡ 16 }
     ensures fuel { DEFAULT_FUEL ≡ 1000 }

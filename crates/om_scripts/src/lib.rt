@@ -3,7 +3,7 @@
 //! A name is looked up by its hash; an image is written once. Nothing is trusted here but the kit's maps.
 //!
 //! In an order of reading: `programs` (what the lines build), `image` (a memory from words), `names` (which names there may
-//! be), `named` (values by name), `laws` (the limit, as a number).
+//! be), `named` (values by name), `laws` (the limits, as numbers).
 #![tactic(auto)]
 
 mod image;
@@ -13,4 +13,4 @@ mod names;
 mod programs;
 
 pub use names::{MAX_NAME, name_of};
-pub use programs::Programs;
+pub use programs::{MAX_KILLS, Programs};

@@ -18,6 +18,9 @@ use om_text::{BuildError, LineError, number_of};
 use std::alloc::{AllocError, Global};
 use std::marker::Model;
 
+/// The most kills of a run: lines `kill` of a cluster file, or kills that are drawn.
+pub const MAX_KILLS: usize = 64;
+
 /// The programs of a cluster and its processes, as far as they have been read.
 #[derive(Drop)]
 pub struct Programs {
