@@ -1,6 +1,6 @@
 //! How a process is let into a run, and begins there.
 
-ghost use Rattle.std.specs.Prelude.{◌≡◌, ◌≤◌, ◌==◌, filter, IfErr, IfOk, OnOk, map};
+ghost use Rattle.std.specs.Prelude.{◌≡◌, ◌≤◌, ◌==◌, filter, IfErr, IfOk, OnOk, is_some, map};
 ghost use Rattle.om_process.specs.Images.{program_of};
 ghost use Rattle.om_report.specs.Faults.{IsFaultBy};
 
@@ -43,6 +43,7 @@ fn begin<'a, J: Series, R, O: StoreMaker<R>>(
     channel: Option<FlightChannel<J, O::Store>>,
 ) -> Result<Node<'a, J, O::Store>, RunFault>
     ensures member { IfOk result (λ node. node.member ≡ record { program = program_of image.entry.now; own = pid; n = n }) }
+    ensures slow { IfOk result (λ node. node.slow ≡ is_some channel) }
     ensures fault { IfErr result (IsFaultBy pid) }
 {
     let store = match opener.make_store(rt, alloc, pid) {
@@ -86,6 +87,7 @@ pub fn admit<'a, K: Naming, J: Series, R: Wait, G: Gate, O: StoreMaker<R>>(
     ensures kills { let config = cluster.now.config.now in
         IfOk result (λ made. made.1.items ≡ map (λ kill. kill.1) (filter (λ kill. kill.0 == pid) config.kills.items)) }
     ensures member { IfOk result (λ made. made.0.member ≡ record { program = program_of image.entry.now; own = pid; n = n }) }
+    ensures slow { IfOk result (λ made. made.0.slow ≡ is_some channel) }
     ensures asked { OnOk result (1 ≤ cluster.now.config.now.gate_turns) }
     ensures fault { IfErr result (IsFaultBy pid) }
 {

@@ -3,6 +3,8 @@ use Rattle.std.specs.Prelude.{◌≡◌, Bool, ℕ, ◌<◌, ◌≤◌, List, le
 use Rattle.om_interval.specs.declared.pid.TheConstants.{MAX_PROCESSES}
 use Rattle.om_board.specs.Inboxes.{Traffic, Takings}
 use Rattle.om_links.specs.Network.{Lines, IsNetwork, ArePuts, AreTakes}
+use Rattle.om_process.specs.Process.{Process}
+use Rattle.om_process.specs.Core.{cluster_size}
 
 -- which process's ends of which network
 pub record EndsState : Type 0 where
@@ -26,6 +28,10 @@ KeepsEnds old new = new.ends ≡ old.ends
 -- whether all were put is as before
 abbrev pub KeepsHasPutAll : LinksState → LinksState → Type 0
 KeepsHasPutAll old new = new.has_put_all ≡ old.has_put_all
+
+-- the process is one of as many
+abbrev pub IsOfCluster : LinksState → Process → Type 0
+IsOfCluster links now = cluster_size now ≡ links.ends.n
 
 -- what holds of the ends that a process has
 pub record AreLinks (l : EndsState) (puts : List Traffic) (takes : List Takings) (turn : ℕ) : Type 0 where

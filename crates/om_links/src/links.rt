@@ -3,11 +3,10 @@
 ghost use Rattle.std.specs.Prelude.{◌≡◌, ◌<◌, ◌≤◌, ◌+◌, ℕ, IfNone, IfSome, false, length, min, nat_eq, not, slice_index, slice_index_or, true};
 ghost use Rattle.om_board.specs.Inboxes.{MatchTake};
 ghost use Rattle.om_interval.specs.declared.pid.TheConstants.{MAX_PROCESSES};
-ghost use Rattle.om_process.specs.Core.{cluster_size};
 ghost use Rattle.om_links.specs.Network.{ArePuts, AreTakes, IsNetwork};
 ghost use Rattle.om_links.specs.Wiring.{HasEnds};
 ghost use Rattle.om_links.specs.Dropping.{AreAllOrNone};
-ghost use Rattle.om_links.specs.Links.{KeepsEnds, KeepsHasPutAll};
+ghost use Rattle.om_links.specs.Links.{KeepsEnds, KeepsHasPutAll, IsOfCluster};
 
 use crate::network::Ends;
 use crate::received::Received;
@@ -397,7 +396,7 @@ impl<'a> Links<'a> {
         core: &ProcCore,
     ) -> Result<(), AllocError>
         requires own { core.now.own ≡ self.old.ends.own }
-        requires size { cluster_size core.now.now ≡ self.old.ends.n }
+        requires size { IsOfCluster self.old core.now.now }
         ensures ends { KeepsEnds self.old self.new }
         ensures taken { self.new.taken ≡ self.old.taken }
         ensures behind { self.new.is_behind ≡ not self.new.has_put_all }
@@ -415,7 +414,7 @@ impl<'a> Links<'a> {
 
     // Begins to put to a process, and says whether some of the messages to it that are kept are not put yet. Mostly there are none.
     fn begin_put(&mut self, core: &ProcCore, to: Pid) -> bool
-        requires size { cluster_size core.now.now ≡ self.old.ends.n }
+        requires size { IsOfCluster self.old core.now.now }
         requires to { to < self.old.ends.n }
         ensures { self.new ≡ self.old }
     {
@@ -437,7 +436,7 @@ impl<'a> Links<'a> {
         to: Pid,
     ) -> Result<(), AllocError>
         requires own { core.now.own ≡ self.old.ends.own }
-        requires size { cluster_size core.now.now ≡ self.old.ends.n }
+        requires size { IsOfCluster self.old core.now.now }
         requires to { to < self.old.ends.n }
         requires behind { self.old.is_behind ≡ not self.old.has_put_all }
         ensures ends { KeepsEnds self.old self.new }
@@ -470,7 +469,7 @@ impl<'a> Links<'a> {
         k: usize,
     ) -> Result<bool, AllocError>
         requires own { core.now.own ≡ self.old.ends.own }
-        requires size { cluster_size core.now.now ≡ self.old.ends.n }
+        requires size { IsOfCluster self.old core.now.now }
         requires to { to < self.old.ends.n }
         ensures ends { KeepsEnds self.old self.new }
         ensures taken { self.new.taken ≡ self.old.taken }

@@ -1,6 +1,6 @@
 //! A process over its store, up or down.
 
-ghost use Rattle.std.specs.Prelude.{◌≡◌, ◌≢◌, ◌<◌, ◌+◌, ◌≤◌, ℕ, ◌∷◌, [], ◌++◌, IfErr, IfOk, IfSome, IsErrOf, IsOk, IsTrue, OnErr, OnOk, drop, false, length};
+ghost use Rattle.std.specs.Prelude.{◌≡◌, ◌≢◌, ◌<◌, ◌+◌, ◌≤◌, ℕ, ◌∷◌, [], ◌++◌, IfErr, IfOk, IfSome, IsErrOf, IsOk, IsTrue, OnErr, OnOk, drop, false, is_some, length};
 ghost use Rattle.om_manager.specs.State.{held_by, process_count};
 ghost use Rattle.om_member.specs.Handed.{AreHandedUpTo, outputs_from};
 ghost use Rattle.om_member.specs.Keeps.{Keeps};
@@ -124,7 +124,8 @@ impl<'a, J: Series, S: Stable> Node<'a, J, S> {
     ) -> Result<Node<'a, J, S>, StartFault>
         requires sound { IsTrue (S.is_clean store) → S.IsSound store }
         requires empty { IsTrue (S.is_clean store) → S.content store ≡ nothing }
-        ensures { IfOk result (λ node. node.member ≡ record { program = program_of image.entry.now; own = pid; n = n }) }
+        ensures member { IfOk result (λ node. node.member ≡ record { program = program_of image.entry.now; own = pid; n = n }) }
+        ensures slow { IfOk result (λ node. node.slow ≡ is_some channel) }
     {
         let mut store = boxed(alloc, store)?;
         let core = ProcCore::start(

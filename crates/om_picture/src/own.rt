@@ -1,9 +1,9 @@
 //! What each kind of event shows on its lane.
 
-ghost use Rattle.std.specs.Prelude.{◌≡◌, ◌==◌, ◌<◌, not, length, OnOk};
+ghost use Rattle.std.specs.Prelude.{◌≡◌, ◌==◌, ◌<◌, not, OnOk};
 ghost use Rattle.om_picture.specs.Drawing.{sketch_of};
 ghost use Rattle.om_picture.specs.Fates.{step_entry};
-ghost use Rattle.om_picture.specs.steps.Adding.{Logs, Shows};
+ghost use Rattle.om_picture.specs.steps.Adding.{Logs, Shows, HasHistory};
 ghost use Rattle.om_sheet.specs.declared.shown.Shown.TheVariants as shows;
 
 use crate::frame::Frame;
@@ -109,7 +109,7 @@ impl Picture {
         made: usize,
         ends: Option<Status>,
     ) -> Result<(), AllocError>
-        requires within { p < length self.old.histories.items }
+        requires within { HasHistory self.old p }
         requires there { (at.x == 0) ≡ not self.old.on }
         ensures { OnOk result (Shows (sketch_of self.old) (sketch_of self.new) p (shows.Run sent made ends)
             step.now.fresh (step_entry step.now at)) }
@@ -129,7 +129,7 @@ impl Picture {
         at: Spot,
         sent: usize,
     ) -> Result<(), AllocError>
-        requires within { p < length self.old.histories.items }
+        requires within { HasHistory self.old p }
         requires there { (at.x == 0) ≡ not self.old.on }
         ensures { OnOk result (Shows (sketch_of self.old) (sketch_of self.new) p (shows.Resend sent) step.now.fresh (step_entry step.now at)) }
     {
@@ -148,7 +148,7 @@ impl Picture {
         frame: usize,
         interval: u32,
     ) -> Result<(), AllocError>
-        requires within { p < length self.old.histories.items }
+        requires within { HasHistory self.old p }
         requires there { (at.x == 0) ≡ not self.old.on }
         ensures { OnOk result (Shows (sketch_of self.old) (sketch_of self.new) p (shows.Receipt frame interval)
             step.now.fresh (step_entry step.now at)) }
@@ -167,7 +167,7 @@ impl Picture {
         at: Spot,
         frame: usize,
     ) -> Result<(), AllocError>
-        requires { p < length self.old.histories.items }
+        requires { HasHistory self.old p }
         ensures { OnOk result (Shows (sketch_of self.old) (sketch_of self.new) p (shows.Refused frame)
             step.now.fresh (step_entry step.now at)) }
     {
@@ -183,7 +183,7 @@ impl Picture {
         at: Spot,
         many: Option<usize>,
     ) -> Result<(), AllocError>
-        requires { p < length self.old.histories.items }
+        requires { HasHistory self.old p }
         ensures { OnOk result (Logs many (step_entry step.now at) (sketch_of self.old) (sketch_of self.new) p) }
     {
         match self.store(p, many) {
@@ -201,7 +201,7 @@ impl Picture {
         step: &PlayedEvent,
         at: Spot,
     ) -> Result<(), AllocError>
-        requires { p < length self.old.histories.items }
+        requires { HasHistory self.old p }
         ensures { OnOk result (Shows (sketch_of self.old) (sketch_of self.new) p shows.Flush step.now.fresh (step_entry step.now at)) }
     {
         self.log(p, step, at, None)
@@ -214,7 +214,7 @@ impl Picture {
         at: Spot,
         count: usize,
     ) -> Result<(), AllocError>
-        requires { p < length self.old.histories.items }
+        requires { HasHistory self.old p }
         ensures { OnOk result (Shows (sketch_of self.old) (sketch_of self.new) p (shows.FlushFirst count)
             step.now.fresh (step_entry step.now at)) }
     {
@@ -227,7 +227,7 @@ impl Picture {
         step: &PlayedEvent,
         at: Spot,
     ) -> Result<(), AllocError>
-        requires within { p < length self.old.histories.items }
+        requires within { HasHistory self.old p }
         requires there { (at.x == 0) ≡ not self.old.on }
         ensures { OnOk result (Shows (sketch_of self.old) (sketch_of self.new) p shows.Checkpoint step.now.fresh (step_entry step.now at)) }
     {
@@ -248,7 +248,7 @@ impl Picture {
         at: Spot,
         declared: bool,
     ) -> Result<(), AllocError>
-        requires { p < length self.old.histories.items }
+        requires { HasHistory self.old p }
         ensures { OnOk result (Shows (sketch_of self.old) (sketch_of self.new) p (shows.Failure declared)
             step.now.fresh (step_entry step.now at)) }
     {
@@ -264,7 +264,7 @@ impl Picture {
         step: &PlayedEvent,
         at: Spot,
     ) -> Result<(), AllocError>
-        requires { p < length self.old.histories.items }
+        requires { HasHistory self.old p }
         ensures { OnOk result (Shows (sketch_of self.old) (sketch_of self.new) p shows.Join step.now.fresh (step_entry step.now at)) }
     {
         self.log(p, step, at, None)?;
@@ -278,7 +278,7 @@ impl Picture {
         step: &PlayedEvent,
         at: Spot,
     ) -> Result<(), AllocError>
-        requires { p < length self.old.histories.items }
+        requires { HasHistory self.old p }
         ensures { OnOk result (Shows (sketch_of self.old) (sketch_of self.new) p shows.GoesOn step.now.fresh (step_entry step.now at)) }
     {
         self.page.stand_up(p, at.x)?;
@@ -293,7 +293,7 @@ impl Picture {
         interval: u32,
         inc: u32,
     ) -> Result<(), AllocError>
-        requires { p < length self.old.histories.items }
+        requires { HasHistory self.old p }
         ensures { OnOk result (Shows (sketch_of self.old) (sketch_of self.new) p (shows.Back interval inc)
             step.now.fresh (step_entry step.now at)) }
     {

@@ -7,7 +7,7 @@ ghost use Rattle.om_picture.specs.Held.{covered_by};
 ghost use Rattle.om_picture.specs.Marks.{form_of, mark_of, shape_marks, title_entry};
 ghost use Rattle.om_sheet.specs.Shows.{is_finished};
 ghost use Rattle.om_sheet.specs.declared.sheet.Spot.{Spot};
-ghost use Rattle.om_picture.specs.steps.Adding.{AreNew, Ends, GoesBack, Raises, ReachesWindow, Receives, Settles, SettlesIf, Shows, ShowsEvent, ShowsOn, Stores, TakesCovered, TakesFirst, Turns, Waits};
+ghost use Rattle.om_picture.specs.steps.Adding.{AreNew, Ends, GoesBack, Raises, ReachesWindow, Receives, Settles, SettlesIf, Shows, ShowsEvent, ShowsOn, Stores, TakesCovered, TakesFirst, Turns, Waits, HasHistory};
 
 use crate::column::{Columns, MOST_LEFT};
 use crate::history::{History, Mark, Next};
@@ -169,7 +169,7 @@ impl Picture {
         at: Spot,
         shown: Shown,
     ) -> Result<(), AllocError>
-        requires within { p < length self.old.histories.items }
+        requires within { HasHistory self.old p }
         requires there { (at.x == 0) ≡ not self.old.on }
         ensures { OnOk result (Shows (sketch_of self.old) (sketch_of self.new) p shown step.now.fresh (step_entry step.now at)) }
     {
@@ -264,7 +264,7 @@ impl Picture {
         shown: Shown,
         more: TitleDetail,
     ) -> Result<(), AllocError>
-        requires { p < length self.old.histories.items }
+        requires { HasHistory self.old p }
         ensures { OnOk result (Turns (Waits at.x shown step.now.fresh (step_entry step.now at)) (sketch_of self.old) (sketch_of self.new) p) }
     {
         let title = title_of(step, more);
@@ -307,7 +307,7 @@ impl Picture {
 
     // Notes that the program of a process came to its end, if it did.
     pub(crate) fn end_program(&mut self, p: usize, ended: bool)
-        requires { p < length self.old.histories.items }
+        requires { HasHistory self.old p }
         ensures turn { Turns (Ends ended) (sketch_of self.old) (sketch_of self.new) p }
         ensures lanes { length self.new.histories.items ≡ length self.old.histories.items }
     {
@@ -317,7 +317,7 @@ impl Picture {
 
     // Notes that an interval of a process began, with a receipt.
     pub(crate) fn receive(&mut self, p: usize, interval: u32)
-        requires { p < length self.old.histories.items }
+        requires { HasHistory self.old p }
         ensures turn { Turns (Receives interval) (sketch_of self.old) (sketch_of self.new) p }
         ensures lanes { length self.new.histories.items ≡ length self.old.histories.items }
     {
@@ -327,7 +327,7 @@ impl Picture {
 
     // Stores so many receipts of a process, or all, and returns the place of the first that was in memory only.
     pub(crate) fn store(&mut self, p: usize, many: Option<usize>) -> Option<u32>
-        requires { p < length self.old.histories.items }
+        requires { HasHistory self.old p }
         ensures turn { Turns (Stores many) (sketch_of self.old) (sketch_of self.new) p }
         ensures loose { is_some result ≡ has_loose (lane_of (sketch_of self.old) p).progress }
     {
@@ -337,7 +337,7 @@ impl Picture {
 
     // Puts a process back into an interval.
     pub(crate) fn go_back(&mut self, p: usize, interval: u32)
-        requires { p < length self.old.histories.items }
+        requires { HasHistory self.old p }
         ensures { Turns (GoesBack interval) (sketch_of self.old) (sketch_of self.new) p }
     {
         let history = &mut self.histories[p];
@@ -346,7 +346,7 @@ impl Picture {
 
     // Notes that a process has this place in a recovery state.
     pub(crate) fn learn(&mut self, p: usize, place: u32)
-        requires { p < length self.old.histories.items }
+        requires { HasHistory self.old p }
         ensures { Turns (Raises place) (sketch_of self.old) (sketch_of self.new) p }
     {
         let history = &mut self.histories[p];

@@ -1,11 +1,11 @@
 //! Marks that are known to be kept or cut.
 
-ghost use Rattle.std.specs.Prelude.{◌≡◌, ◌<◌, nat_lt, [], if◌then◌else◌, is_some, length, slice_index, Some, IfOk, OnOk};
+ghost use Rattle.std.specs.Prelude.{◌≡◌, ◌<◌, nat_lt, [], if◌then◌else◌, is_some, slice_index, Some, IfOk, OnOk};
 ghost use Rattle.om_picture.specs.Drawing.{held_of, lane_of, mark_marks, sketch_of};
 ghost use Rattle.om_picture.specs.Fates.{step_entry, step_row};
 ghost use Rattle.om_picture.specs.Held.{is_elsewhere};
 ghost use Rattle.om_picture.specs.Marks.{form_of, mark_of, output_marks, released_at, title_entry};
-ghost use Rattle.om_picture.specs.steps.Adding.{LearnsAll, LearnsAt, Settles, fate_in, fate_now, form_late, frees, kept, lane_number, made_by};
+ghost use Rattle.om_picture.specs.steps.Adding.{LearnsAll, LearnsAt, Settles, fate_in, fate_now, form_late, frees, kept, lane_number, made_by, HasHistory};
 
 use crate::history::{Mark, Next};
 use crate::lane::{lane_y, or_left};
@@ -222,7 +222,7 @@ impl Picture {
         step: &PlayedEvent,
         at: Spot,
     ) -> Result<Option<u32>, AllocError>
-        requires { p < length self.old.histories.items }
+        requires { HasHistory self.old p }
         ensures learns { OnOk result (LearnsAt (step_row step.now at) (sketch_of self.old) (sketch_of self.new) p) }
         ensures freed { IfOk result (λ held. is_some held ≡ frees (step_row step.now at) p (lane_of (sketch_of self.old) p)) }
     {

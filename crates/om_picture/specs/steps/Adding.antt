@@ -16,6 +16,7 @@ use Rattle.om_sheet.specs.declared.sheet.Glyph.{Glyph}
 use Rattle.om_sheet.specs.declared.sheet.Glyph.TheVariants as glyphs
 use Rattle.om_sheet.specs.declared.shown.Shown.{Shown}
 use Rattle.om_sheet.specs.declared.shown.Shown.TheVariants as shows
+use Rattle.om_picture.specs.declared.picture.Picture.{Picture}
 
 -- ---- a lane
 -- one mark more waits
@@ -333,3 +334,7 @@ pub record IsAmid (n : ℕ) (before : List EventRow) (row : EventRow) (old new :
 abbrev pub AreNew : List History → Type 0
 AreNew [] = Unit {0}
 AreNew (history ∷ histories) = (lane_in history ≡ new_lane) × AreNew histories
+
+-- the process has a history
+abbrev pub HasHistory : Picture → ℕ → Type 0
+HasHistory picture p = p < length picture.histories.items
