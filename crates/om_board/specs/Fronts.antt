@@ -17,7 +17,7 @@ pub record IsAtMost (low high : Front) : Type 0 where
   pub round : low.round ≤ high.round
   pub vec : IsBelow low.vec high.vec
 
--- the second front has a higher version, and nothing of it is lower
+-- the second front has a higher version, and no number of it is lower
 pub record Rises (low high : Front) : Type 0 where
   pub version : low.version < high.version
   pub at_most : IsAtMost low high

@@ -3,7 +3,7 @@ use Rattle.std.specs.Prelude.{ℕ, Bool, true, false}
 use Rattle.om_board.specs.declared.waiting.Waiting.{Waiting}
 use Rattle.om_board.specs.declared.waiting.Waiting.TheVariants.{Waits}
 
--- whether it waits
+-- whether a process of which this is known waits
 abbrev pub waits : Waiting → Bool
 waits (Waits put taken) = true
 waits _ = false

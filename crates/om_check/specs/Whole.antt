@@ -45,7 +45,7 @@ IsStarved w p = (c : CoreState) × (slice_get w.cores p ≡ Some (Some c)) × (c
     × (status_of (move_of c) ≡ Waiting) × (made_by c ≡ length (released_by w.manager p))
     × HasAllFrom w c (length w.programs)
 
--- nothing is left to happen
+-- of a world of these programs nothing is left to happen
 pub record IsStuck (programs : List Program) (w : WorldState) : Type 0 where
   pub way : IsUnderWay programs w
   pub each : (p : ℕ) → p < length programs → IsDone w p ⊎ IsStarved w p

@@ -21,7 +21,7 @@ refusal_of_start starting.Memory pid = running.Memory
 refusal_of_start starting.Fault pid = running.Fault pid
 refusal_of_start _ pid = running.Load pid
 
--- its worker cannot go on
+-- the fault of a run in which the worker of a process cannot go on
 abbrev pub refusal_of_worker : WorkerFault → ℕ → RunFault
 refusal_of_worker working.Memory pid = running.Memory
 refusal_of_worker working.Refused pid = running.Fault pid

@@ -33,7 +33,7 @@ IsReplayError held x error = IsNoMatterOfContent error
 abbrev pub TellsReplayError : {S A : Type 0} → (S → Content) → (S → Bool) → (S → Type 0) → ℕ → S → Result A CommandError → S → Type 0
 TellsReplayError content is_clean IsSound x old result new = IsCleanCall is_clean IsSound old new → IfErr result (IsReplayError (content old) x)
 
--- one whose process can be replayed is refused for no matter of the content
+-- a clean call whose process can be replayed is refused for no matter of the content
 abbrev pub RefusesForNoContent : {S A : Type 0} → (S → Content) → (S → Bool) → (S → Type 0) → ℕ → S → Result A CommandError → S → Type 0
 RefusesForNoContent content is_clean IsSound x old result new =
     IsCleanCall is_clean IsSound old new → CanReplay anyone (content old) x → IfErr result IsNoMatterOfContent

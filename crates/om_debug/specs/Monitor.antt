@@ -56,7 +56,7 @@ abbrev pub help_text : List ℕ
 help_text = HELP.now
 
 -- ---- commands
--- before the event of a number, or at the end of a record that has no such event
+-- a timeline stands before the event of a number, or at the end of a record that has no such event
 abbrev pub IsAtEvent : ℕ → TimelineState → Type 0
 IsAtEvent number t = (t.turns ≡ 0) × ((t.event ≡ number) ⊎ ((length t.events ≤ t.event) × (t.event < number)))
 

@@ -57,11 +57,11 @@ abbrev pub has_stops : DebugState → Bool
 has_stops d = nat_lt 0 (length d.breaks) || nat_lt 0 (length d.watches)
 
 -- ---- positions
--- the one is before the other
+-- the one position is before the other
 abbrev pub IsBefore : ℕ → ℕ → ℕ → ℕ → Type 0
 IsBefore event turns other done = (event < other) ⊎ ((event ≡ other) × (turns < done))
 
--- the one is the other, or behind it
+-- the one position is the other, or behind it
 abbrev pub IsFrom : ℕ → ℕ → ℕ → ℕ → Type 0
 IsFrom event turns other done = (event < other) ⊎ ((event ≡ other) × (turns ≤ done))
 
@@ -81,11 +81,11 @@ pub record IsMoved (old new : TimelineState) : Type 0 where
   pub more : List Deed
   pub is : new ≡ record old { deeds = old.deeds ++ more; event = new.event; turns = new.turns }
 
--- only the timeline is another
+-- a debugger's state with another timeline
 abbrev pub with_timeline : DebugState → TimelineState → DebugState
 with_timeline d t = record d { timeline = t }
 
--- only the timeline changed
+-- of a debugger's state only the timeline changed
 abbrev pub ChangesTimelineAlone : DebugState → DebugState → Type 0
 ChangesTimelineAlone old new = new ≡ with_timeline old new.timeline
 
@@ -137,11 +137,11 @@ pub record IsLast (deeds : List Deed) (event turns end done : ℕ) : Type 0 wher
   pub comes : next_at deeds event turns ≢ Still
   pub still : (e k : ℕ) → IsBefore event turns e k → IsBefore e k end done → k ≤ turns_at deeds e → next_at deeds e k ≡ Still
 
--- at another position
+-- a debugger's state at another position of its timeline
 abbrev pub standing : DebugState → ℕ → ℕ → DebugState
 standing d event turns = with_timeline d (at d.timeline event turns)
 
--- only the position changed
+-- of a debugger's state only the position changed
 abbrev pub ChangesPositionAlone : DebugState → DebugState → Type 0
 ChangesPositionAlone old new = new ≡ standing old new.timeline.event new.timeline.turns
 

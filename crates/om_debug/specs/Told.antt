@@ -45,16 +45,16 @@ abbrev pub text_of : Reply → List ℕ
 text_of (Text bytes) = bytes.items
 text_of (Last bytes) = bytes.items
 
--- it is over behind the answer
+-- whether a session is over behind an answer
 abbrev pub is_last : Reply → Bool
 is_last (Text bytes) = false
 is_last (Last bytes) = true
 
--- it is not
+-- a session goes on behind an answer
 abbrev pub IsNotLast : Reply → Type 0
 IsNotLast reply = is_last reply ≡ false
 
--- nothing was read
+-- of what a reader still has nothing was read
 abbrev pub ReadsNothing : {R Bytes : Type 0} → (R → Bytes) → R → R → Type 0
 ReadsNothing remaining old new = remaining new ≡ remaining old
 

@@ -80,7 +80,7 @@ abbrev pub first_changed : State → State → List Watch → Option Watch
 first_changed before after [] = None
 first_changed before after (w ∷ watches) = if changes w before after then Some w else first_changed before after watches
 
--- by what comes next to a machine: an instruction, a message, or a return, which writes what it changes
+-- the watchpoint that is met by what comes next to a machine: an instruction, a message, or a return, which writes what it changes
 abbrev pub ran_met : List Watch → State → Next → Option Watch
 ran_met watches m Still = None
 ran_met watches m (Instructions left) = first_met (inst_access m) watches

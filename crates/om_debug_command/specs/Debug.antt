@@ -48,7 +48,7 @@ pub record IsMember (script : EventScript) (symbols : List Symbols) (place : ℕ
   pub file : option_map string_bytes i.file ≡ file_if symbols (program_at_place script.cluster place)
   pub placed : IsPlaced script place i.debugger
 
--- each of some is the one of its place
+-- each of these shown processes is the one of its place in the script
 abbrev pub AreBegun : EventScript → List Symbols → List Inferior → Type 0
 AreBegun script symbols members = (place : ℕ) (i : Inferior) → slice_get members place ≡ Some i → IsMember script symbols place i
 

@@ -25,6 +25,6 @@ IsRun cluster program = (place : ℕ) × (program_at_place cluster place ≡ Som
 abbrev pub AreRun : Cluster → List Symbols → Type 0
 AreRun cluster symbols = All (λ (s : Symbols). IsRun cluster (string_bytes s.program)) symbols
 
--- one of them is of a program that no process runs
+-- one of the files of symbols is of a program that no process runs
 abbrev pub IsUnknown : Cluster → List Symbols → Type 0
 IsUnknown cluster symbols = (k : ℕ) × (one : Symbols) × (slice_get symbols k ≡ Some one) × (IsRun cluster (string_bytes one.program) → ⊥)

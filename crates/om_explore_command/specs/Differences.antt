@@ -16,7 +16,7 @@ bytes_in outputs number = option_map (λ output. output.bytes) (slice_get output
 abbrev pub PutOutSame : List HeldOutput → List HeldOutput → Type 0
 PutOutSame one other = (number : ℕ) → bytes_in one number ≡ bytes_in other number
 
--- the first output in which they differ has this number
+-- the first output in which two lists of outputs differ has this number
 pub record DifferIn (one other : List HeldOutput) (number : ℕ) : Type 0 where
   pub before : (earlier : ℕ) → earlier < number → bytes_in one earlier ≡ bytes_in other earlier
   pub differs : bytes_in one number ≢ bytes_in other number

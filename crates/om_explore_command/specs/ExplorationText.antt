@@ -29,7 +29,7 @@ abbrev pub waiter_text : Cluster → ℕ → Status → List ℕ
 waiter_text cluster p Waiting = 32 ∷ name_at cluster p
 waiter_text cluster p _ = []
 
--- who waits, if somebody does
+-- the line of who waits, if somebody does
 abbrev pub waiting_text : Cluster → List Status → List ℕ
 waiting_text cluster statuses =
     if list_any is_waiting statuses
@@ -90,7 +90,7 @@ abbrev pub DifferAt : ℕ → List Found → List (Option TextPosition) → Type
 DifferAt n found places = (k : ℕ) (one other : Found) (place : Option TextPosition) → slice_get found 0 ≡ Some one → slice_get found k ≡ Some other
     → slice_get places k ≡ Some place → DifferFirst n one.outcome.report other.outcome.report place
 
--- there is one for each
+-- of each outcome that was found there is a place where it differs from the first, or none
 pub record ArePlaces (n : ℕ) (found : List Found) (places : List (Option TextPosition)) : Type 0 where
   pub number : length places ≡ length found
   pub each : DifferAt n found places

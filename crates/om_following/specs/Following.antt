@@ -13,7 +13,7 @@ pub record IsEmpty (lane : FollowedOutputs) : Type 0 where
   pub copied : lane.copied ≡ 0
   pub fresh : lane.fresh.items ≡ []
 
--- so is each lane
+-- no output of any lane was copied
 abbrev pub AreEmpty : List FollowedOutputs → Type 0
 AreEmpty lanes = (p : ℕ) (lane : FollowedOutputs) → slice_get lanes p ≡ Some lane → IsEmpty lane
 
@@ -50,12 +50,12 @@ pub record IsTold {F : Type 0} (Tells : F → F → List Told → Type 0) (over_
   pub in_order : (p i : ℕ) (t : Told) → slice_get (all_of p told lanes) i ≡ Some t → t.number ≡ i
   pub made : over_clean → (p i : ℕ) (t : Told) → slice_get (all_of p told lanes) i ≡ Some t → IsMadeWithin programs n p (slice_index vec p) t
 
--- so it was, unless it wanted no more
+-- unless a follower wanted no more, it was told since `start` of outputs as `IsTold` says
 abbrev pub IsFollowed : {F : Type 0} → (F → F → List Told → Type 0) → Type 0 → List Program → ℕ → List ℕ → F → List FollowedOutputs → Option FollowFault → F
     → Type 0
 IsFollowed Tells over_clean programs n vec start lanes fault now = fault ≢ Some Unwanted → IsTold Tells over_clean programs n vec start lanes now
 
--- so it still is, since any start
+-- what a follower was told since any start is as `IsFollowed` says, if it was so before
 abbrev pub StaysFollowed : {F : Type 0} → (F → F → List Told → Type 0) → Type 0 → List Program → ℕ → List ℕ → List FollowedOutputs → Option FollowFault → F
     → List ℕ → List FollowedOutputs → Option FollowFault → F → Type 0
 StaysFollowed Tells over_clean programs n vec lanes fault before vec' lanes' fault' after =

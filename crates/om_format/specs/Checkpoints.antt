@@ -65,7 +65,7 @@ pub record SpellsCheckpoint (version : Version) (r : CheckpointRecord) (bytes : 
   pub fields : Spells checkpoint_format (checkpoint_values version r) bytes
   pub ended : AreEnded r
 
--- in one of the versions
+-- the bytes spell the checkpoint in one of the versions
 abbrev pub IsSpelled : CheckpointRecord → List ℕ → Type 0
 IsSpelled r bytes = (version : Version) × SpellsCheckpoint version r bytes
 

@@ -18,11 +18,11 @@ pub record IsGoneOn (old new : Inferior) : Type 0 where
   pub moved : IsMoved old.debugger.timeline new.debugger.timeline
   pub passed : IsPassed old.debugger new.debugger
 
--- it has gone on, or stands where it stood
+-- a process has gone on, or stands where it stood
 abbrev pub IsOn : Inferior → Inferior → Type 0
 IsOn old new = (new ≡ old) ⊎ IsGoneOn old new
 
--- so has each
+-- each process has gone on, or stands where it stood
 abbrev pub AreOn : List Inferior → List Inferior → Type 0
 AreOn olds news = AllZip IsOn olds news
 

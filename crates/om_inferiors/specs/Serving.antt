@@ -25,7 +25,7 @@ pub record SessionState : Type 0 where
   pub decoding : Decoding
   pub acks : Bool
 
--- before the first byte
+-- a session before its first byte
 abbrev pub session : Shown → SessionState
 session shown = record { shown = shown; decoding = start; acks = true }
 

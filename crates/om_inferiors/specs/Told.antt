@@ -141,7 +141,7 @@ abbrev pub set_members : List Inferior → Option ℕ → (DebugState → DebugS
 set_members members None change = members
 set_members members (Some place) change = set_place members place change (slice_get members place)
 
--- the one that is meant is set anew
+-- of the process that is meant a breakpoint or a watchpoint is set anew
 pub record IsSet (old : Inferiors) (change : DebugState → DebugState) (told : Reply) (new : Inferiors) : Type 0 where
   pub text : text_of told ≡ ok_if (is_some (place_of_inferior old.members.items old.selected))
   pub members : new.members.items ≡ set_members old.members.items (place_of_inferior old.members.items old.selected) change
@@ -219,7 +219,7 @@ IsGroupAnswered (groups.Other requests.Detach) old told new = (text_of told ≡ 
 IsGroupAnswered (groups.Other requests.Kill) old told new = (text_of told ≡ codes "OK") × (new ≡ old)
 IsGroupAnswered request old told new = (text_of told ≡ asked_group old request) × (new ≡ old)
 
--- it is over behind the answer, or goes on: whether it is when a process is left hangs on how many are
+-- a session is over behind the answer, or goes on: whether it is when a process is left hangs on how many are
 abbrev pub IsGroupEnd : GroupRequest → Reply → Type 0
 IsGroupEnd (groups.Leave number) told = Unit {0}
 IsGroupEnd (groups.Other request) told = is_last told ≡ is_leaving request

@@ -11,7 +11,7 @@ Lines = List (Vec Line Global)
 abbrev pub IsAt : Lines → ℕ → ℕ → Line → Type 0
 IsAt lines from to line = (row : Vec Line Global) × (slice_get lines from ≡ Some row) × (slice_get row.items to ≡ Some line)
 
--- there is one from each process to each
+-- there is an inbox from each process to each
 pub record IsNetwork (n : ℕ) (lines : Lines) : Type 0 where
   pub senders : length lines ≡ n
   pub receivers : (from : ℕ) (row : Vec Line Global) → slice_get lines from ≡ Some row → length row.items ≡ n

@@ -23,11 +23,11 @@ process_count m = length m.recovery
 abbrev pub held_by : ManagerState → ℕ → List HeldOutput
 held_by m p = slice_index_or m.outputs p []
 
--- those that are released: the ones made within the recovery state
+-- the outputs of a process that are released: those made within the recovery state
 abbrev pub released_by : ManagerState → ℕ → List HeldOutput
 released_by m p = within (held_by m p) (slice_index m.recovery p)
 
--- one where a gathering is open
+-- how many gatherings are open: one, or none
 abbrev pub open_count : Option (List Presence) → ℕ
 open_count None = 0
 open_count (Some presences) = 1

@@ -147,7 +147,7 @@ pub record HasJoined {S : Type 0} (before : ManagerState) (pid : ℕ) (old : Mem
   pub joined : IfOk answer (λ gathered. new ≡ record old { standing = stands.In core })
   pub refused : OnErr answer (new ≡ old)
 
--- its failure is declared, and it is down; or that was refused
+-- the failure of a member is declared, and it is down; or that was refused
 pub record HasDeclared {S : Type 0} (before : ManagerState) (pid : ℕ) (old : Member S) (answer : Result Gathered FailError)
     (after : ManagerState) (new : Member S) : Type 0 where
   pub failing : Failing before pid old.round answer after

@@ -13,7 +13,7 @@ use Rattle.om_node.specs.Nodes.{IsNode, IsOnWay, Member, MemberState}
 abbrev pub FliesOnWay : Member → Transaction → Type 0
 FliesOnWay m transaction = (c : CoreState) × (due : Bool) × IsOnWay m c.now × CarriesCheckpoint due c transaction.flight.checkpoint
 
--- whether it is with a flight
+-- whether the store of a process is with a flight
 abbrev pub is_away : {J S : Type 0} → Hold J S → Bool
 is_away (Here store) = false
 is_away (Away ticket) = true

@@ -21,7 +21,7 @@ pub record MemberState : Type 0 where
   pub member : Member
   pub core : CoreState
 
--- one that is up: as it runs, whether its store is away with a flight, and whether flights take to it what is to be stored
+-- a process that is up: as it runs, whether its store is away with a flight, and whether flights take to it what is to be stored
 pub record NodeState : Type 0 where
   pub member : Member
   pub core : CoreState
@@ -32,7 +32,7 @@ pub record NodeState : Type 0 where
 abbrev pub IsOnWay : Member → Process → Type 0
 IsOnWay m s = (h : List Received) × CheckpointOf m.program m.own m.n s h
 
--- so does each checkpoint that a store holds
+-- the process of each checkpoint that a store holds stands where some receipts lead, with fewer entries kept
 abbrev pub AreOnWay : Member → Content → Type 0
 AreOnWay m held = (x : ℕ) (bytes : List ℕ) → get held.checkpoints x ≡ Some bytes
     → (c : CheckpointRecord) → IsSpelled c bytes → IsOnWay m (process_of_checkpoint c)
@@ -60,11 +60,11 @@ abbrev pub TakesFrom : {S : Type 0} → (ℕ → ℕ → HeldOutput → Type 0) 
 TakesFrom Takes is_clean m = (seq : ℕ) (output : HeldOutput)
     → (AreAlwaysClean is_clean → IsOutputOf m.program m.own m.n seq output) → Takes m.own seq output
 
--- it is one of the same processes, with its program
+-- a process that runs is still the same, with its program
 abbrev pub KeepsMember : NodeState → NodeState → Type 0
 KeepsMember old new = new.member ≡ old.member
 
--- where a call is refused, it runs as it did
+-- where a call is refused, the process stands as it did
 abbrev pub LeavesCore : {A E : Type 0} → NodeState → Result A E → NodeState → Type 0
 LeavesCore old result new = OnErr result (new.core ≡ old.core)
 

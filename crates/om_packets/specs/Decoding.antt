@@ -13,7 +13,7 @@ pub record Decoding : Type 0 where
   pub body : List ℕ
   pub total : ℕ
 
--- between packets, before any
+-- a decoding between packets, before any
 abbrev pub start : Decoding
 start = record { place = places.Outside; body = []; total = 0 }
 
@@ -21,7 +21,7 @@ start = record { place = places.Outside; body = []; total = 0 }
 abbrev pub begin : Decoding
 begin = record { place = places.Body; body = []; total = 0 }
 
--- between packets again
+-- a decoding between packets again
 abbrev pub outside : Decoding → Decoding
 outside d = record d { place = places.Outside }
 
@@ -29,7 +29,7 @@ outside d = record d { place = places.Outside }
 abbrev pub kept : List ℕ → ℕ → List ℕ
 kept body byte = if nat_le (length body) MAX_PACKET then body ++ byte ∷ [] else body
 
--- with one byte more of the packet
+-- a decoding with one byte more of the packet
 abbrev pub with_byte : Decoding → ℕ → Decoding
 with_byte d byte = record d { body = kept d.body byte }
 
@@ -59,7 +59,7 @@ abbrev pub step_escaped : Decoding → ℕ → Decoding × Option Event
 step_escaped d byte =
     (record { place = places.Body; body = kept d.body (bit_xor byte 32); total = (d.total + byte) % 256 }, None)
 
--- the first digit, behind #
+-- the step over the first digit of the sum, behind #
 abbrev pub first_digit : Decoding → Option ℕ → Decoding × Option Event
 first_digit d None = (outside d, Some Garbled)
 first_digit d (Some high) = (record d { place = places.SecondDigit high }, None)
@@ -67,7 +67,7 @@ first_digit d (Some high) = (record d { place = places.SecondDigit high }, None)
 abbrev pub step_first : Decoding → ℕ → Decoding × Option Event
 step_first d byte = first_digit d (hex_value byte)
 
--- behind the first digit: a packet, where both are its sum and it is not too long
+-- what the second digit of the sum ends: a packet, where both are its sum and it is not too long
 abbrev pub second_digit : ℕ → Decoding → Option ℕ → Event
 second_digit high d None = Garbled
 second_digit high d (Some low) =

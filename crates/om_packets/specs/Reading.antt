@@ -18,7 +18,7 @@ abbrev pub reading : Decoding → List ℕ → List (Event × List ℕ)
 reading d [] = []
 reading d (byte ∷ bytes) = told (step d byte) ++ reading (step d byte).0 bytes
 
--- where the reader stands behind them
+-- where the decoding stands behind bytes
 abbrev pub behind : Decoding → List ℕ → Decoding
 behind d [] = d
 behind d (byte ∷ bytes) = behind (step d byte).0 bytes

@@ -64,7 +64,7 @@ progress_behind p rows = fold (next_progress p) (record { interval = 0; safe = 0
 abbrev pub interval_behind : ℕ → List EventRow → ℕ
 interval_behind p rows = (progress_behind p rows).interval
 
--- it has received something that is in memory only
+-- a process has received something that is in memory only
 abbrev pub has_loose : Progress → Bool
 has_loose progress = nat_lt progress.safe progress.interval
 
@@ -94,7 +94,7 @@ highest p was rows = fold (next_place p) was rows
 abbrev pub cuts : ℕ → ℕ → EventRow → Bool
 cuts interval place row = is_finished row.entry.answer && not (nat_le interval place)
 
--- one of these events does
+-- one of these events cuts what stands at an interval
 abbrev pub is_cut : ℕ → ℕ → ℕ → List EventRow → Bool
 is_cut p interval was [] = false
 is_cut p interval was (row ∷ rows) = cuts interval (next_place p was row) row || is_cut p interval (next_place p was row) rows
@@ -112,10 +112,10 @@ pub record Fate : Type 0 where
   pub cut : Bool
   -- it was not cut, and a recovery state covers it: its outputs are released
   pub covered : Bool
-  -- that is so, or its process had stored it
+  -- a recovery state covers it, or its process had stored it
   pub stored : Bool
 
--- behind others, where no place was higher than one, and the process was so far
+-- the fate of an interval behind these events, where no place was higher than one, and the process was so far
 abbrev pub fate_behind : ℕ → ℕ → ℕ → Progress → List EventRow → Fate
 fate_behind p interval place was rows =
     let cut = is_cut p interval place rows in

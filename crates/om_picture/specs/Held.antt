@@ -48,7 +48,7 @@ held_from p before was (row ∷ rows) = held_from p (before ++ row ∷ []) (next
 abbrev pub held_behind : ℕ → List EventRow → List Held
 held_behind p rows = held_from p [] [] rows
 
--- it has outputs that were made elsewhere than at a place
+-- what is held has outputs that were made elsewhere than at a place
 abbrev pub is_elsewhere : ℕ → Held → Bool
 is_elsewhere x held = nat_lt 0 held.fresh && not (held.x == x)
 

@@ -72,7 +72,7 @@ event_marks p before row later =
     sure_marks (has_loose (progress_behind p before)) shows row.entry
     ++ (if may_wait shows then fated_marks shows row.fresh fate row.entry else [])
 
--- if its process is one of so many
+-- the marks of an event on the lane of its process, if that is one of so many
 abbrev pub marks_on : ℕ → Option ℕ → List EventRow → EventRow → List EventRow → List EventMark
 marks_on n None before row later = []
 marks_on n (Some p) before row later = if nat_lt p n then event_marks p before row later else []
@@ -85,7 +85,7 @@ is_reached first rows = list_any (λ row. nat_le first row.entry.line) rows
 abbrev pub released_at : Bool → ℕ → EventAt → List EventMark
 released_at told p entry = if told then mark_of glyphs.Released false (record entry { at = record { x = entry.at.x; lane = p } }) else []
 
--- on the lanes below one
+-- the marks of what is released with an event, on the lanes below one
 abbrev pub released_below : ℕ → List EventRow → EventRow → List EventMark
 released_below zero before row = []
 released_below (suc p) before row = released_below p before row ++ released_at (releases p before row) p row.entry
@@ -95,7 +95,7 @@ abbrev pub row_marks : ℕ → ℕ → List EventRow → EventRow → List Event
 row_marks n first before row later =
     if is_reached first (before ++ row ∷ []) then marks_on n (process_of row.entry.event) before row later ++ released_below n before row else []
 
--- those of all these events, between others
+-- the marks of all these events, between others
 abbrev pub marks_among : ℕ → ℕ → List EventRow → List EventRow → List EventRow → List EventMark
 marks_among n first before [] later = []
 marks_among n first before (row ∷ rows) later =

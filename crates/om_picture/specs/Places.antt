@@ -16,7 +16,7 @@ abbrev pub shows_on : ℕ → Option ℕ → List EventRow → EventRow → Bool
 shows_on n None before row = false
 shows_on n (Some p) before row = nat_lt p n && is_shown (shown (has_ended p before) row.entry.event row.entry.answer)
 
--- it does so in the window, and so has a column of its own
+-- an event shows something in the window, and so has a column of its own
 abbrev pub has_column : ℕ → ℕ → List EventRow → EventRow → Bool
 has_column n first before row = is_reached first (before ++ row ∷ []) && shows_on n (process_of row.entry.event) before row
 

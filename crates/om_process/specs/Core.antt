@@ -67,7 +67,7 @@ CoreTurns k c d = Turns c.own (cluster_size c.now) k c.now d.now
 abbrev pub core_refuses : ℕ → CoreState → ℕ
 core_refuses k c = refused_sends c.own (cluster_size c.now) k c.now
 
--- only the process changed
+-- a core with another process
 abbrev pub with_now : CoreState → Process → CoreState
 with_now c p = record c { now = p }
 
@@ -79,6 +79,6 @@ pub record RunsTo (c : CoreState) (fuel steps : ℕ) (status : Status) (d : Core
   pub rest : d ≡ with_now c d.now
   pub told : status ≡ status_of (move_of d)
 
--- only the pending rows changed
+-- a core with other pending rows
 abbrev pub with_pending : CoreState → List PendingRow → CoreState
 with_pending c rows = record c { pending = rows }

@@ -16,7 +16,7 @@ AreReleasedBy m released = (p : ℕ) (outputs : Vec Output Global) → slice_get
 abbrev pub AreReleased : ℕ → List Output → Type 0
 AreReleased limit outputs = (i : ℕ) (o : Output) → slice_get outputs i ≡ Some o → (o.seq ≡ i) × (o.interval ≤ limit)
 
--- so are those of each process, within its place of the vector
+-- the outputs of each process are numbered from 0 without a gap, and each was made within the process's place of the vector
 abbrev pub AreAllReleased : List ℕ → List (Vec Output Global) → Type 0
 AreAllReleased vec released = (p : ℕ) (outputs : Vec Output Global) → slice_get released p ≡ Some outputs
     → AreReleased (slice_index vec p) outputs.items
@@ -25,7 +25,7 @@ AreAllReleased vec released = (p : ℕ) (outputs : Vec Output Global) → slice_
 abbrev pub AreMade : List Program → ℕ → ℕ → List Output → Type 0
 AreMade programs n p outputs = (i : ℕ) (o : Output) → slice_get outputs i ≡ Some o → IsMade programs n p o.seq (held_of o)
 
--- so are those of each process
+-- of each process each of some outputs is the one of its number that its program makes
 abbrev pub AreAllMade : List Program → ℕ → List (Vec Output Global) → Type 0
 AreAllMade programs n released = (p : ℕ) (outputs : Vec Output Global) → slice_get released p ≡ Some outputs
     → AreMade programs n p outputs.items

@@ -32,6 +32,6 @@ abbrev pub AreToldMade : List Program → ℕ → List Told → Type 0
 AreToldMade programs n told = (p i : ℕ) (t : Told) → slice_get (of_process p told) i ≡ Some t
     → (x : ℕ) × IsMade programs n p t.number (record { interval = x; bytes = t.bytes })
 
--- by process: so it is, within the process's place of the vector
+-- by process: each of what was told is the output of its number that its program makes, within the process's place of the vector
 abbrev pub AreToldWithin : List Program → ℕ → List ℕ → List Told → Type 0
 AreToldWithin programs n vec told = (p i : ℕ) (t : Told) → slice_get (of_process p told) i ≡ Some t → IsMadeWithin programs n p (slice_index vec p) t

@@ -73,7 +73,7 @@ behind_action [] = []
 behind_action ([] ∷ more) = more
 behind_action ((letter ∷ word) ∷ more) = if letter == 114 then drop 1 more else more
 
--- who is to take it: the thread that is named behind it, or any
+-- who is to take an action: the thread that is named behind it, or any
 abbrev pub named_first : List (List ℕ) → Option Whom
 named_first [] = Some whoms.Any
 named_first ([] ∷ more) = Some whoms.Any
@@ -103,7 +103,7 @@ file_request (object ∷ action ∷ annex ∷ offset ∷ length ∷ []) =
     then Some (file_of (hex_number annex) (hex_number offset) (hex_number length)) else None
 file_request _ = None
 
--- by the letter that begins the first word: H, T
+-- a request by the letter that begins its first word: H, T
 abbrev pub by_group_letter : List ℕ → Option GroupRequest
 by_group_letter [] = None
 by_group_letter (letter ∷ word) =

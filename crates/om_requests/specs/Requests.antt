@@ -61,7 +61,7 @@ abbrev pub break_at : Bool → Option ℕ → Request
 break_at sets None = requests.Malformed
 break_at sets (Some address) = if sets then requests.SetBreak address else requests.ClearBreak address
 
--- by its kind: 0 and 1 are breakpoints
+-- whether what is to be set is a breakpoint, by its kind: 0 and 1
 abbrev pub is_break : List ℕ → Bool
 is_break kind = bytes_eq kind (codes "0") || bytes_eq kind (codes "1")
 
@@ -94,7 +94,7 @@ break_request sets kind [] = requests.Malformed
 break_request sets kind (address ∷ more) =
     if is_break kind then break_at sets (hex_number address) else watched_request sets (watched_of kind) (hex_number address) more
 
--- by the letter that begins the first word: m, H, T, Z, z, and those that would change something, M X G P
+-- a request by the letter that begins its first word: m, H, T, Z, z, and those that would change something, M X G P
 abbrev pub letter_request : ℕ → List ℕ → List (List ℕ) → Request
 letter_request letter word rest =
     if letter == 109 then memory_request word rest
@@ -122,7 +122,7 @@ transfer (object ∷ action ∷ annex ∷ offset ∷ length ∷ []) =
     if bytes_eq action (codes "read") then transfer_of object annex offset length else requests.Unknown
 transfer _ = requests.Unknown
 
--- as long as pc is at the one address or above, and below the other
+-- the request to go on as long as pc is at the one address or above, and below the other
 abbrev pub range_request : List ℕ → List (List ℕ) → Request
 range_request from [] = requests.Malformed
 range_request from (to ∷ more) = with_two (λ a b. requests.Resume (Range a b)) (hex_number from) (hex_number to)
@@ -159,7 +159,7 @@ abbrev pub monitor_request : List (List ℕ) → Request
 monitor_request (word ∷ []) = requests.Monitor (decoded_command (decode_of word))
 monitor_request _ = requests.Monitor Help
 
--- by the whole first word, where that is no command of the user
+-- a request by its whole first word, where that is no command of the user
 abbrev pub by_word : List ℕ → List (List ℕ) → Request
 by_word first rest =
     if bytes_eq first (codes "qSupported") then requests.Supported

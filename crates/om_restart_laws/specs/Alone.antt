@@ -48,7 +48,7 @@ world_over programs live contents m = record {
   since = record { before = live; stored = false };
 }
 
--- such a world is a point of a run without failures; nothing is lost that could be served; and just what was put out is released
+-- a world over these contents is a point of a run without failures; nothing is lost that could be served; and just what was put out is released
 pub record StandsOver (programs : List Program) (live : List Entry) (state : List ℕ) (contents : List Content)
     (outputs : ℕ → List HeldOutput) (m : ManagerState) : Type 0 where
   pub holds : Holds (world_over programs live contents m)

@@ -24,7 +24,7 @@ pub record ClusterFile : Type 0 where
 abbrev pub no_settings : ClusterFile
 no_settings = record { cluster = no_programs; kills = []; flush = DEFAULT_FLUSH; checkpoint = DEFAULT_CHECKPOINT; fuel = DEFAULT_FUEL }
 
--- behind this no line of a program or a process may stand
+-- a cluster file behind which no line of a program or a process may stand
 abbrev pub closed : ClusterFile → ClusterFile
 closed script = record script { cluster = record script.cluster { is_closed = true } }
 

@@ -53,7 +53,7 @@ IsPartOfScriptIn modes.Follow form over_clean script before after = IsPartOf (to
 IsPartOfScriptIn (modes.FollowRaw name) form over_clean script before after = IsRawPartOf name.now over_clean script before after
 IsPartOfScriptIn _ form over_clean script before after = ⊥
 
--- so it is for the cluster file that these bytes are
+-- what was written of a run of the cluster file that these bytes are, in a mode, that came to no end
 abbrev pub IsPartIn : RunMode → BytesForm → Type 0 → List ℕ → Option (List ℕ) → Option (List ℕ) → Type 0
 IsPartIn mode form over_clean bytes before after = (script : ClusterFile) × IsScript cluster_file_line no_settings bytes script
     × IsPartOfScriptIn mode form over_clean script before after

@@ -9,7 +9,7 @@ use Rattle.om_scripts.specs.declared.names.TheConstants.{MAX_NAME}
 abbrev pub is_name_byte : ℕ → Bool
 is_name_byte b = is_ascii_alphanumeric b || (b == 95)
 
--- one such byte or more, and not too many
+-- a word of one byte or more, all of which a name may have, and not too many
 abbrev pub is_name : List ℕ → Bool
 is_name word = nat_lt 0 (length word) && nat_le (length word) MAX_NAME && list_all is_name_byte word
 

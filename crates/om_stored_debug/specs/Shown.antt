@@ -22,7 +22,7 @@ abbrev pub IsErrorOfStore : Content → Option ℕ → CommandError → Type 0
 IsErrorOfStore held (Some x) error = IsReplayError held x error
 IsErrorOfStore held None error = (x : ℕ) × IsReplayError held x error
 
--- these, or those of packets
+-- the errors of showing a store: those of the replay, or those of packets
 abbrev pub IsErrorOfShownStore : Content → Option ℕ → CommandError → Type 0
 IsErrorOfShownStore held interval errors.CannotRead = Unit {0}
 IsErrorOfShownStore held interval errors.CannotWrite = Unit {0}

@@ -30,7 +30,7 @@ pub record FitsAlone (own n : ℕ) (m : State) (r : ReceiptRecord) : Type 0 wher
 abbrev pub behind_receipt : ℕ → ℕ → State → ReceiptRecord → State
 behind_receipt own n m r = received_alone own n r.from r.body (turns_alone own n (turns_to m r) m)
 
--- behind several, one after another
+-- a machine behind several receipts, one after another
 abbrev pub behind_receipts : ℕ → ℕ → State → List ReceiptRecord → State
 behind_receipts own n m [] = m
 behind_receipts own n m (r ∷ rs) = behind_receipts own n (behind_receipt own n m r) rs

@@ -53,12 +53,12 @@ pub record IsLastStored (held : Content) (x : ℕ) : Type 0 where
   pub followed : IsFollowed held.receipts checkpoint.head.pid checkpoint.n checkpoint.head.interval (process_of_checkpoint checkpoint).machine receipts
   pub is : x ≡ checkpoint.head.interval + length receipts
 
--- it stands behind the receipt of the interval that is asked for, or else of the last
+-- a timeline stands behind the receipt of the interval that is asked for, or else of the last
 abbrev pub IsStored : Content → Option ℕ → StoredTimeline → Type 0
 IsStored held (Some x) s = IsStoredAt held x s
 IsStored held None s = (x : ℕ) × IsLastStored held x × IsStoredAt held x s
 
--- why it does not: as a replay to the interval that is asked for is refused, or else to some interval
+-- why a store gives no timeline: as a replay to the interval that is asked for is refused, or else to some interval
 abbrev pub RefusesStored : Content → Option ℕ → ReplayFault → Type 0
 RefusesStored held (Some x) fault = Refuses anyone held x fault
 RefusesStored held None fault = (x : ℕ) × Refuses anyone held x fault

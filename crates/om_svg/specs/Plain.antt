@@ -3,7 +3,7 @@ use Rattle.std.specs.Prelude.{◌≡◌, ℕ, Bool, true, not, ◌||◌, ◌==�
 use Rattle.std.specs.List.{list_all}
 use Rattle.om_scripts.specs.Programs.{Cluster}
 
--- none of `"`, `&`, `<` and `>`
+-- a byte is none of `"`, `&`, `<` and `>`
 abbrev pub is_plain : ℕ → Bool
 is_plain byte = not ((byte == 34) || ((byte == 38) || ((byte == 60) || (byte == 62))))
 

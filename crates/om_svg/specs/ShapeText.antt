@@ -27,7 +27,7 @@ use Rattle.om_sheet.specs.declared.sheet.MessageLine.TheVariants as message_line
 abbrev pub height : ℕ → ℕ
 height lane = 112 + 64 * lane
 
--- behind the class of what a round cut
+-- the letter behind the class of what a round cut
 abbrev pub cut_letter : Bool → List ℕ
 cut_letter true = codes "x"
 cut_letter false = []
@@ -172,7 +172,7 @@ shape_text shape = glyph_text shape.glyph shape
 abbrev pub place_text : Spot → List ℕ
 place_text spot = codes "L" ++ decimal spot.x ++ 32 ∷ decimal (height spot.lane - 10) ++ codes "v20"
 
--- where it begins
+-- the column in which a path begins; 0 of no path
 abbrev pub start_of : List Spot → ℕ
 start_of [] = 0
 start_of (spot ∷ spots) = spot.x

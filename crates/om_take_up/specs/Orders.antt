@@ -32,12 +32,12 @@ abbrev pub ComeInTurn : ManagerState → List Act → ManagerState → Type 0
 ComeInTurn old [] new = new ≡ old
 ComeInTurn old (act ∷ acts) new = (mid : ManagerState) × Comes old act mid × ComeInTurn mid acts new
 
--- those of one process, in order
+-- the acts of one process, in order
 abbrev pub acts_of : ℕ → List Act → List Act
 acts_of p [] = []
 acts_of p (act ∷ acts) = if nat_eq (actor act) p then act ∷ acts_of p acts else acts_of p acts
 
--- each of n processes tells what its store held, and then that it failed; nobody tells anything else. Among them any order will do
+-- each of n processes tells what its store held, and then that it failed; nobody tells anything else. Among the processes any order will do
 pub record AreOfEach (n : ℕ) (rows : ℕ → List PendingRow) (outputs : ℕ → List Made) (acts : List Act) : Type 0 where
   pub each : (p : ℕ) → p < n → acts_of p acts ≡ takes_up p (rows p) (outputs p) ∷ fails p ∷ []
   pub others : (p : ℕ) → n ≤ p → acts_of p acts ≡ []

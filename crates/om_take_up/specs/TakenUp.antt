@@ -8,12 +8,12 @@ use Rattle.om_process.specs.declared.row.PendingRow.{PendingRow}
 use Rattle.om_take_up.specs.declared.taking.TakeUpFault.{TakeUpFault}
 use Rattle.om_take_up.specs.declared.taking.TakeUpFault.TheVariants.{Output, Row}
 
--- it took the rows, in order, and then the outputs, in order
+-- the manager took the rows, in order, and then the outputs, in order
 abbrev pub HasTakenUp : ManagerState → ℕ → ℕ → List PendingRow → List Made → ManagerState → Type 0
 HasTakenUp old round p rows outputs new =
     (told : ManagerState) × AreTold old round p rows told × AreHanded told round p outputs new
 
--- it took the rows, in order, and then the outputs, in order, up to the first row or output that it refused
+-- the manager took the rows, in order, and then the outputs, in order, up to the first row or output that it refused
 abbrev pub IsTakenUp : ManagerState → ℕ → ℕ → List PendingRow → List Made → Result (Unit {0}) TakeUpFault → ManagerState → Type 0
 IsTakenUp old round p rows outputs (Ok done) new = HasTakenUp old round p rows outputs new
 IsTakenUp old round p rows outputs (Err (Row fault)) new = (count : ℕ) × IsToldUpTo old round p rows count (Err fault) new

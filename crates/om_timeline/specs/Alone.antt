@@ -19,12 +19,12 @@ move_alone own n m = next_move own n m []
 abbrev pub turn_alone : ℕ → ℕ → State → Option State
 turn_alone own n m = machine_moved (move_alone own n m)
 
--- it stands where there is none
+-- the machine behind a turn, or as it is where there is none
 abbrev pub or_stands : State → Option State → State
 or_stands m None = m
 or_stands m (Some next) = next
 
--- after so many turns
+-- the machine after so many turns
 abbrev pub turns_alone : ℕ → ℕ → ℕ → State → State
 turns_alone own n zero m = m
 turns_alone own n (suc k) m = turns_alone own n k (or_stands m (turn_alone own n m))
@@ -37,7 +37,7 @@ TakesAlone own n (suc k) m = (next : State) × (turn_alone own n m ≡ Some next
 pub record HasTurns (own n turns : ℕ) (m : State) : Type 0 where
   pub takes : TakesAlone own n turns m
 
--- after a message of these bytes, where the process waits for one
+-- the machine after a message of these bytes, where the process waits for one
 abbrev pub received_at : Move → ℕ → List ℕ → State → State
 received_at Waits from body m = finished_receive from body m
 received_at _ from body m = m

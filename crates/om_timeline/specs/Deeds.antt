@@ -13,7 +13,7 @@ after_deed own n m (Took from body) = received_alone own n from body m
 after_deed own n m Fell = m
 after_deed own n m (Back machine) = machine
 
--- after several, one after another
+-- the machine after several deeds, one after another
 abbrev pub after_deeds : ℕ → ℕ → State → List Deed → State
 after_deeds own n m [] = m
 after_deeds own n m (deed ∷ deeds) = after_deeds own n (after_deed own n m deed) deeds
@@ -28,6 +28,6 @@ turns_at [] event = 0
 turns_at (deed ∷ deeds) zero = turns_in deed
 turns_at (deed ∷ deeds) (suc event) = turns_at deeds event
 
--- after so many deeds of a tape, and so many turns of the next
+-- the machine after so many deeds of a tape, and so many turns of the next
 abbrev pub at_position : ℕ → ℕ → State → List Deed → ℕ → ℕ → State
 at_position own n m tape event turns = turns_alone own n turns (after_deeds own n m (take event tape))

@@ -34,7 +34,7 @@ pub record InRun (p : ℕ) (w : WorldState) (event : Option Event) (turns : ℕ)
   pub leads : CoreTurns turns core next
   pub is_after : next.now.machine ≡ after
 
--- before the event, or so many turns on in it
+-- the world before the event, or so many turns on in it
 pub data IsTurned (p : ℕ) (w : WorldState) (event : Option Event) (before : State) (turns : ℕ) (m : State) : Type 0 where
   still : turns ≡ 0 → m ≡ before → IsTurned p w event before turns m
   runs : InRun p w event turns before m → IsTurned p w event before turns m

@@ -24,7 +24,7 @@ pub record TimelineState : Type 0 where
 abbrev pub machine_here : TimelineState → State
 machine_here t = at_position t.process t.n t.first t.deeds t.event t.turns
 
--- at another position
+-- a timeline at another position
 abbrev pub at : TimelineState → ℕ → ℕ → TimelineState
 at t event turns = record t { event = event; turns = turns }
 
@@ -32,7 +32,7 @@ at t event turns = record t { event = event; turns = turns }
 abbrev pub IsUpTo : ℕ → ℕ → ℕ → ℕ → Type 0
 IsUpTo event turns other done = (event < other) ⊎ ((event ≡ other) × (turns ≤ done))
 
--- with more events played
+-- a timeline with more events played
 abbrev pub with_deeds : TimelineState → List Deed → TimelineState
 with_deeds t deeds = record t { deeds = deeds }
 
@@ -42,7 +42,7 @@ pub record CanBegin (w : WorldState) (p : ℕ) : Type 0 where
   pub is_core : slice_get w.cores p ≡ Some (Some core)
   pub few : core.now.machine.count ≤ LAST_NUMBER
 
--- before the first event of a record, with the machine that the process has there
+-- a timeline before the first event of a record, with the machine that the process has there
 pub record IsBegin (t : TimelineState) (p : ℕ) (world : WorldState) (events : List Event) : Type 0 where
   pub is_process : t.process ≡ p
   pub is_begun : t.begun ≡ Some world
@@ -54,7 +54,7 @@ pub record IsBegin (t : TimelineState) (p : ℕ) (world : WorldState) (events : 
   pub is_core : slice_get world.cores p ≡ Some (Some core)
   pub is_first : t.first ≡ core.now.machine
 
--- before the first event of a record of which all is told: each event did this to process p of n, whose machine was this
+-- a timeline before the first event of a record of which all is told: each event did this to process p of n, whose machine was this
 abbrev pub told_timeline : ℕ → ℕ → State → List Event → List Deed → TimelineState
 told_timeline p n first events deeds =
     record { process = p; n = n; first = first; begun = None; events = events; deeds = deeds; event = 0; turns = 0 }

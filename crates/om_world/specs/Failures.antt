@@ -91,7 +91,7 @@ pub data IsToComeBack (w : WorldState) (p : ℕ) : Type 0 where
   down : (declared : Bool) → slice_get w.places p ≡ Some (ProcessState.Down declared) → HasNews w p → IsToComeBack w p
   rolled_back : slice_get w.places p ≡ Some ProcessState.In → HasNews w p → is_named w.manager.backs p ≡ true → IsToComeBack w p
 
--- it is back where the round cut it to, replayed from its store, which is cut to there, and keeps nothing volatile; it is rolled back without a failure only
+-- a process is back where the round cut it to, replayed from its store, which is cut to there, and keeps nothing volatile; it is rolled back without a failure only
 -- where it was beyond its place of the recovery state
 pub record BackHappened (old : WorldState) (p interval inc : ℕ) (new : WorldState) : Type 0 where
   pub due : IsToComeBack old p
@@ -114,7 +114,7 @@ pub record IsToGoOn (w : WorldState) (p : ℕ) : Type 0 where
   pub news : HasNews w p
   pub kept : is_named w.manager.backs p ≡ false
 
--- it goes on as it was, and knows the round and its starts
+-- a process goes on as it was, and knows the round and its starts
 abbrev pub HasGoneOn : WorldState → ℕ → WorldState → Type 0
 HasGoneOn old p new =
     (c : CoreState) × (slice_get old.cores p ≡ Some (Some c)) × (new ≡ put_up old p (resumed c old.manager.round old.manager.starts))

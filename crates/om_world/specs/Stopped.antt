@@ -24,7 +24,7 @@ pub data IsLeft (w : WorldState) (run : List Entry) : Type 0 where
   current : AreCurrent w → run ≡ w.live → IsLeft w run
   between : (p : ℕ) → p < length w.programs → HasNews w p → w.since.stored ≡ false → run ≡ w.since.before → IsLeft w run
 
--- there is one
+-- there is a run that the world is left with
 abbrev pub IsWhole : WorldState → Type 0
 IsWhole w = (run : List Entry) × IsLeft w run
 
